@@ -6,3 +6,4 @@ pub mod Contract
 pub mod Extent
 pub mod Memory
 pub mod Image
+pub mod Probe

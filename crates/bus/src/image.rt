@@ -38,7 +38,10 @@ impl<'a> Image<'a> {
         ensures { λ r. ⌜ r ≡ imageCells (now (self .entry) .tag) (now (self .entry) .base) (now (now (self .entry) .bytes)) (address .value) ⌝ }
     {
         match extent::offset(self.base, self.bytes.len(), address) {
-            Some(offset) => Cell::Fixed { byte: self.bytes[offset], tag: self.tag },
+            Some(offset) => Cell::Fixed {
+                byte: self.bytes[offset],
+                tag: self.tag,
+            },
             None => Cell::Silent { tag: self.tag },
         }
     }

@@ -2,8 +2,9 @@
 // Every bus is proved against one contract, so whatever is built over `Bus` is proved once for all of them.
 pub mod address;
 pub mod cell;
-pub mod refusal;
 pub mod contract;
 mod extent;
-pub mod memory;
 pub mod image;
+pub mod memory;
+pub mod probe;
+pub mod refusal;

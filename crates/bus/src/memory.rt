@@ -38,7 +38,9 @@ impl<'a> Memory<'a> {
         ensures { λ r. ⌜ r ≡ memoryCells (now (self .entry) .tag) (now (self .entry) .base) (now (now (self .entry) .bytes)) (address .value) ⌝ }
     {
         match extent::offset(self.base, self.bytes.len(), address) {
-            Some(offset) => Cell::Open { byte: self.bytes[offset] },
+            Some(offset) => Cell::Open {
+                byte: self.bytes[offset],
+            },
             None => Cell::Silent { tag: self.tag },
         }
     }
