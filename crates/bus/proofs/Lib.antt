@@ -1,2 +1,1 @@
-pub mod Addresses
-mod Probes
+mod Addresses

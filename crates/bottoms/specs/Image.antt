@@ -2,10 +2,10 @@
 use mathlib.Core.List.{List, [], _∷_}
 use Prim.Native.Nat.{ℕ}
 use lib.ListN.{length, getD}
 use Rattle.bus.specs.declared.cell.Cell.{Cell}
 use Rattle.bus.specs.declared.cell.Cell.the-variants.{Fixed}
 use Rattle.bus.specs.Contract.{Cells, Shape, plain, holding}
-use Rattle.bus.specs.Extent.{stretch, leftOut}
+use Rattle.bottoms.specs.Extent.{stretch, leftOut}
 
 abbrev pub fixedByte : ℕ → List ℕ → ℕ → Cell
 fixedByte tag bytes i = Fixed (getD bytes i 0) tag

@@ -6,17 +6,17 @@ use lib.Dec.{ltb, eqb}
 use lib.ListN.{getD, set, replicate}
 use Rattle.std.specs.declared.result.Result.{Result}
 use Rattle.std.specs.declared.result.Result.the-variants.{Err}
 use Rattle.bus.specs.declared.cell.Cell.{Cell}
 use Rattle.bus.specs.declared.cell.Cell.the-variants.{Silent, Fixed, Open}
-use Rattle.bus.specs.declared.probe.Direction.{Direction}
-use Rattle.bus.specs.declared.probe.Direction.the-variants.{Input, Output}
-use Rattle.bus.specs.declared.probe.Register.{Register}
-use Rattle.bus.specs.declared.probe.ProbeBank.{ProbeBank}
+use Rattle.bottoms.specs.declared.probe.Direction.{Direction}
+use Rattle.bottoms.specs.declared.probe.Direction.the-variants.{Input, Output}
+use Rattle.bottoms.specs.declared.probe.Register.{Register}
+use Rattle.bottoms.specs.declared.probe.ProbeBank.{ProbeBank}
 use Rattle.bus.specs.declared.refusal.Refusal.{Refusal}
 use Rattle.bus.specs.declared.refusal.Refusal.the-variants.{OutOfRange}
 use Rattle.bus.specs.Address.{space}
 use Rattle.bus.specs.Contract.{Cells, Shape, plain, holding}
-use Rattle.bus.specs.Extent.{stretch}
+use Rattle.bottoms.specs.Extent.{stretch}
 
 -- a new register: an input of 0 that does not answer
 abbrev pub unset : Register

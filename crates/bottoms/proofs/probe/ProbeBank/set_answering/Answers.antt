@@ -1,7 +1,7 @@
 use borrow.Author.Needs.{needs}
-use Rattle.bus.specs.Probe.{answers}
-use Rattle.bus.proofs.Probes.{set-cells}
-use Rattle.bus.proofs.probe.ProbeBank.set_answering.Needs as need
+use Rattle.bottoms.specs.Probe.{answers}
+use Rattle.bottoms.proofs.Probes.{set-cells}
+use Rattle.bottoms.proofs.probe.ProbeBank.set_answering.Needs as need
 
 pub returns-in-Break-place : need.returns-in-Break-place
 returns-in-Break-place c = record { answer = search needs; bank = search needs; cells = search needs }

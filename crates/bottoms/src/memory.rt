@@ -2,14 +2,14 @@
 ghost use mathlib.Core.Path.{_≡_};
 ghost use denote.Ref.{now, name};
 ghost use lib.ListN.{length};
-ghost use Rattle.bus.specs.Extent.{fits};
-ghost use Rattle.bus.specs.Memory.{memoryCells, memoryShape};
-use super::address::Address;
-use super::cell::Cell;
-use super::cell::Kind;
-use super::contract::Bus;
+ghost use Rattle.bottoms.specs.Extent.{fits};
+ghost use Rattle.bottoms.specs.Memory.{memoryCells, memoryShape};
 use super::extent;
-use super::refusal::Refusal;
+use bus::address::Address;
+use bus::cell::Cell;
+use bus::cell::Kind;
+use bus::contract::Bus;
+use bus::refusal::Refusal;
 
 #[derive(Drop)]
 pub struct Memory<'a> {

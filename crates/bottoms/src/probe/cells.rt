@@ -1,16 +1,16 @@
 // The probe bank as a bus.
 ghost use mathlib.Core.Path.{_≡_};
-ghost use Rattle.bus.specs.Probe.{registerCell, bankCells, bankShape};
+ghost use Rattle.bottoms.specs.Probe.{registerCell, bankCells, bankShape};
 use super::Direction;
 use super::ProbeBank;
 use super::REGISTERS;
 use super::Register;
-use crate::address::Address;
-use crate::cell::Cell;
-use crate::cell::Kind;
-use crate::contract::Bus;
 use crate::extent;
-use crate::refusal::Refusal;
+use bus::address::Address;
+use bus::cell::Cell;
+use bus::cell::Kind;
+use bus::contract::Bus;
+use bus::refusal::Refusal;
 
 impl Register {
     fn cell(self, tag: u8) -> Cell

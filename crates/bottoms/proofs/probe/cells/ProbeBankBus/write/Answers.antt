@@ -1,11 +1,11 @@
 use mathlib.Core.Path.{_≡_}
 use lib.ListN.{length}
 use borrow.Author.Needs.{needs}
 use Rattle.bus.specs.declared.cell.Kind.the-variants.{Open}
 use Rattle.bus.specs.Cell.{kindOf}
-use Rattle.bus.specs.Probe.{bankCells}
-use Rattle.bus.proofs.Probes.{stored-cells, stored-shape}
-use Rattle.bus.proofs.probe.cells.ProbeBankBus.write.Needs as need
+use Rattle.bottoms.specs.Probe.{bankCells}
+use Rattle.bottoms.proofs.Probes.{stored-cells, stored-shape}
+use Rattle.bottoms.proofs.probe.cells.ProbeBankBus.write.Needs as need
 
 pub returns : need.returns
 returns c =

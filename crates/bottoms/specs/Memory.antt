@@ -3,10 +3,10 @@ use mathlib.Core.List.{List, [], _∷_}
 use Prim.Native.Nat.{ℕ}
 use lib.ListN.{length, getD}
 use base.Fml.{GName}
 use Rattle.bus.specs.declared.cell.Cell.{Cell}
 use Rattle.bus.specs.declared.cell.Cell.the-variants.{Open}
 use Rattle.bus.specs.Contract.{Cells, Shape, plain, holding}
-use Rattle.bus.specs.Extent.{stretch, leftOut}
+use Rattle.bottoms.specs.Extent.{stretch, leftOut}
 
 abbrev pub openByte : List ℕ → ℕ → Cell
 openByte bytes i = Open (getD bytes i 0)

@@ -1,5 +1,5 @@
 use borrow.Author.Needs.{needs}
-use Rattle.bus.proofs.memory.MemoryBus.write.Needs as need
+use Rattle.bottoms.proofs.memory.MemoryBus.write.Needs as need
 
 pub returns : need.returns
 returns c = record { answer = search needs; after = search needs; kept = search needs }

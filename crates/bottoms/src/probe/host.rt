@@ -1,14 +1,14 @@
 // What the host does with a probe bank: make it, and set its registers one at a time.
 ghost use mathlib.Core.Path.{_≡_};
 ghost use Rattle.std.specs.declared.result.Result.the-variants.{Ok};
-ghost use Rattle.bus.specs.Extent.{fits};
-ghost use Rattle.bus.specs.Probe.{newBank, bankCells, inBank, register, withRegister, directed, answers, holdingByte, replaced};
+ghost use Rattle.bottoms.specs.Extent.{fits};
+ghost use Rattle.bottoms.specs.Probe.{newBank, bankCells, inBank, register, withRegister, directed, answers, holdingByte, replaced};
 use super::Direction;
 use super::ProbeBank;
 use super::REGISTERS;
 use super::Register;
 use crate::extent;
-use crate::refusal::Refusal;
+use bus::refusal::Refusal;
 
 impl ProbeBank {
     // Tests the number of a bank: all its registers lie below 16,777,216.

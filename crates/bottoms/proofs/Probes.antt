@@ -9,14 +9,14 @@ use lib.ListN.{length, getD, set}
 use lib.Seq.{getD-set-same, getD-set-other, map-set-same}
 use Rattle.std.proofs.shelf.Tests.{cases-eq, cases-lt}
 use Rattle.std.proofs.shelf.Ways.{tells}
 use Rattle.bus.specs.declared.cell.Cell.the-variants as cells
 use Rattle.bus.specs.declared.cell.Kind.the-variants.{Open}
-use Rattle.bus.specs.declared.probe.Register.{Register}
-use Rattle.bus.specs.declared.probe.ProbeBank.{ProbeBank}
+use Rattle.bottoms.specs.declared.probe.Register.{Register}
+use Rattle.bottoms.specs.declared.probe.ProbeBank.{ProbeBank}
 use Rattle.bus.specs.Address.{space}
 use Rattle.bus.specs.Cell.{kindOf, written}
 use Rattle.bus.specs.Contract.{Cells, put, holding, plain}
-use Rattle.bus.specs.Probe.{unset, register, registerCell, bankCells, bankShape, holdingByte, withRegister, replaced, setting, byteBehind}
+use Rattle.bottoms.specs.Probe.{unset, register, registerCell, bankCells, bankShape, holdingByte, withRegister, replaced, setting, byteBehind}
 
 abbrev pub changed : ProbeBank → ℕ → Register → ProbeBank
 changed bank n r = record { base = bank .base; tag = bank .tag; registers = set (bank .registers) n r }

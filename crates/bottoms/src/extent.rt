@@ -1,10 +1,10 @@
 // A stretch of addresses: a base and a length. Where it reaches beyond the last address, that part of it has no address.
 ghost use mathlib.Core.Path.{_≡_};
 ghost use Prim.Native.Nat.{ℕ};
-ghost use Rattle.bus.specs.Extent.{fits, offsetIn};
-use super::address::ADDRESSES;
-use super::address::Address;
-use super::refusal::Refusal;
+ghost use Rattle.bottoms.specs.Extent.{fits, offsetIn};
+use bus::address::ADDRESSES;
+use bus::address::Address;
+use bus::refusal::Refusal;
 
 // Whether the whole stretch lies in the address space.
 pub(crate) fn check(base: u32, length: usize) -> Result<(), Refusal>
