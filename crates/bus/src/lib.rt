@@ -3,4 +3,5 @@
 pub mod address;
 pub mod cell;
 pub mod contract;
+pub mod extent;
 pub mod refusal;

@@ -1,0 +1,80 @@
+-- The probe bank: its registers, its cells, its shape, and what the host's settings make of them. Assumes nothing.
+use mathlib.Core.Bool.{Bool, true, false, cond, _&&_}
+use mathlib.Core.List.{List, [], _∷_, map}
+use Prim.Native.Nat.{ℕ, _+_}
+use lib.Dec.{ltb, eqb}
+use lib.ListN.{getD, set, replicate}
+use Rattle.std.specs.declared.result.Result.{Result}
+use Rattle.std.specs.declared.result.Result.the-variants.{Err}
+use Rattle.bus.specs.declared.cell.Cell.{Cell}
+use Rattle.bus.specs.declared.cell.Cell.the-variants.{Silent, Fixed, Open}
+use Rattle.probe.specs.declared.bank.Direction.{Direction}
+use Rattle.probe.specs.declared.bank.Direction.the-variants.{Input, Output}
+use Rattle.probe.specs.declared.bank.Register.{Register}
+use Rattle.probe.specs.declared.bank.ProbeBank.{ProbeBank}
+use Rattle.bus.specs.declared.refusal.Refusal.{Refusal}
+use Rattle.bus.specs.declared.refusal.Refusal.the-variants.{OutOfRange}
+use Rattle.bus.specs.Address.{space}
+use Rattle.bus.specs.Contract.{Cells, Shape, plain, holding}
+use Rattle.bus.specs.Extent.{stretch}
+
+-- a new register: an input of 0 that does not answer
+abbrev pub unset : Register
+unset = record { direction = Input; answering = false; byte = 0 }
+
+abbrev pub newBank : ℕ → ℕ → ProbeBank
+newBank tag base = record { base = base; tag = tag; registers = replicate 32 unset }
+
+abbrev pub register : ProbeBank → ℕ → Register
+register bank n = getD (bank .registers) n unset
+
+-- the cell of a register that answers
+abbrev pub answering : ℕ → Direction → ℕ → Cell
+answering tag Input b = Fixed b tag
+answering tag Output b = Open b
+
+abbrev pub registerCell : ℕ → Register → Cell
+registerCell tag r = cond (r .answering) (answering tag (r .direction) (r .byte)) (Silent tag)
+
+abbrev pub bankCells : ProbeBank → Cells
+bankCells bank = stretch (bank .tag) (bank .base) 32 (λ n. registerCell (bank .tag) (register bank n))
+
+-- an answer for the number of a register, and the refusal for any other
+abbrev pub inBank : {A : Type 0} → ℕ → Result A Refusal → Result A Refusal
+inBank n answer = cond (ltb n 32) answer (Err OutOfRange)
+
+-- the three settings of a register, each of which leaves the other two
+abbrev pub directed : Direction → Register → Register
+directed d r = record { direction = d; answering = r .answering; byte = r .byte }
+
+abbrev pub answers : Bool → Register → Register
+answers t r = record { direction = r .direction; answering = t; byte = r .byte }
+
+abbrev pub holdingByte : ℕ → Register → Register
+holdingByte b r = record { direction = r .direction; answering = r .answering; byte = b }
+
+-- the bank with one register set anew and the others as they were; unchanged where there is no such register
+abbrev pub withRegister : ℕ → (Register → Register) → ProbeBank → ProbeBank
+withRegister n anew bank = record { base = bank .base; tag = bank .tag; registers = cond (ltb n 32) (set (bank .registers) n (anew (register bank n))) (bank .registers) }
+
+-- the cells with that of one register replaced, the others as they were
+abbrev pub replaced : ℕ → (Register → Register) → ProbeBank → Cells
+replaced n anew bank a = cond (ltb n 32 && (ltb a space && eqb a (bank .base + n))) (registerCell (bank .tag) (anew (register bank n))) (bankCells bank a)
+
+abbrev pub directionNumber : Direction → ℕ
+directionNumber Input = 0
+directionNumber Output = 1
+
+-- direction and answering of a register, as one number
+abbrev pub setting : Register → ℕ
+setting r = directionNumber (r .direction) + cond (r .answering) 2 0
+
+-- a register's byte, left out where its cell is open, since that shows the byte and takes another
+abbrev pub byteBehind : Cell → Register → Cell
+byteBehind (Silent t) r = Open (r .byte)
+byteBehind (Fixed b t) r = Open (r .byte)
+byteBehind (Open b) r = Silent 0
+
+-- tag, base, direction and answering of each register, and the bytes of those that are not open
+abbrev pub bankShape : ProbeBank → Shape
+bankShape bank = holding (bank .tag ∷ bank .base ∷ map setting (bank .registers)) (λ n. byteBehind (bankCells bank (bank .base + n)) (register bank n)) plain plain

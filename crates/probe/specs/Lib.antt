@@ -1,0 +1,2 @@
+-- The registers, the cells and the shape of a probe bank.
+pub mod Bank

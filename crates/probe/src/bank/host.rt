@@ -1,0 +1,88 @@
+// What the host does with a probe bank: make it, and set its registers one at a time.
+ghost use mathlib.Core.Path.{_≡_};
+ghost use Rattle.std.specs.declared.result.Result.the-variants.{Ok};
+ghost use Rattle.bus.specs.Extent.{fits};
+ghost use Rattle.probe.specs.Bank.{newBank, bankCells, inBank, register, withRegister, directed, answers, holdingByte, replaced};
+use super::Direction;
+use super::ProbeBank;
+use super::REGISTERS;
+use super::Register;
+use bus::extent;
+use bus::refusal::Refusal;
+
+impl ProbeBank {
+    // Tests the number of a bank: all its registers lie below 16,777,216.
+    pub fn check(base: u32) -> Result<(), Refusal>
+        ensures { λ r. ⌜ r ≡ fits base 32 ⌝ }
+    {
+        extent::check(base, REGISTERS as usize)
+    }
+
+    // A bank of registers that do not answer, whatever the number: registers that lie above $FFFFFF have no cell.
+    pub fn new(base: u32, tag: u8) -> ProbeBank
+        ensures bank { λ r. ⌜ r ≡ newBank tag base ⌝ }
+    {
+        let register = Register {
+            direction: Direction::Input,
+            answering: false,
+            byte: 0,
+        };
+        ProbeBank {
+            base,
+            tag,
+            registers: [register; 32],
+        }
+    }
+
+    // What a register is set to.
+    pub fn register(&self, number: u32) -> Result<Register, Refusal>
+        ensures { λ r. ⌜ r ≡ inBank number (Ok (register (now (self .entry)) number)) ⌝ }
+    {
+        let place = place(number)?;
+        Ok(self.registers[place])
+    }
+
+    pub fn set_direction(&mut self, number: u32, direction: Direction) -> Result<(), Refusal>
+        ensures answer { λ r. ⌜ r ≡ inBank number (Ok tt) ⌝ }
+        ensures bank { λ _. ⌜ now (self .exit) ≡ withRegister number (directed direction) (now (self .entry)) ⌝ }
+        ensures cells { λ _. ⌜ bankCells (now (self .exit)) ≡ replaced number (directed direction) (now (self .entry)) ⌝ }
+    {
+        let place = place(number)?;
+        let register = &mut self.registers[place];
+        register.direction = direction;
+        Ok(())
+    }
+
+    pub fn set_answering(&mut self, number: u32, answering: bool) -> Result<(), Refusal>
+        ensures answer { λ r. ⌜ r ≡ inBank number (Ok tt) ⌝ }
+        ensures bank { λ _. ⌜ now (self .exit) ≡ withRegister number (answers answering) (now (self .entry)) ⌝ }
+        ensures cells { λ _. ⌜ bankCells (now (self .exit)) ≡ replaced number (answers answering) (now (self .entry)) ⌝ }
+    {
+        let place = place(number)?;
+        let register = &mut self.registers[place];
+        register.answering = answering;
+        Ok(())
+    }
+
+    pub fn set_byte(&mut self, number: u32, byte: u8) -> Result<(), Refusal>
+        ensures answer { λ r. ⌜ r ≡ inBank number (Ok tt) ⌝ }
+        ensures bank { λ _. ⌜ now (self .exit) ≡ withRegister number (holdingByte byte) (now (self .entry)) ⌝ }
+        ensures cells { λ _. ⌜ bankCells (now (self .exit)) ≡ replaced number (holdingByte byte) (now (self .entry)) ⌝ }
+    {
+        let place = place(number)?;
+        let register = &mut self.registers[place];
+        register.byte = byte;
+        Ok(())
+    }
+}
+
+// Where in the table a register stands.
+fn place(number: u32) -> Result<usize, Refusal>
+    ensures { λ r. ⌜ r ≡ inBank number (Ok number) ⌝ }
+{
+    if number < REGISTERS {
+        Ok(number as usize)
+    } else {
+        Err(Refusal::OutOfRange)
+    }
+}

@@ -1,0 +1,71 @@
+// Memory: open cells over lent bytes from a base address on, silent cells everywhere else.
+ghost use mathlib.Core.Path.{_≡_};
+ghost use denote.Ref.{now, name};
+ghost use lib.ListN.{length};
+ghost use Rattle.bus.specs.Extent.{fits};
+ghost use Rattle.storage.specs.Memory.{memoryCells, memoryShape};
+use bus::address::Address;
+use bus::cell::Cell;
+use bus::cell::Kind;
+use bus::contract::Bus;
+use bus::extent;
+use bus::refusal::Refusal;
+
+#[derive(Drop)]
+pub struct Memory<'a> {
+    base: u32,
+    tag: u8,
+    bytes: &'a mut [u8],
+}
+
+impl<'a> Memory<'a> {
+    // Tests the numbers of a memory: base plus length is at most 16,777,216.
+    pub fn check(base: u32, length: usize) -> Result<(), Refusal>
+        ensures { λ r. ⌜ r ≡ fits base length ⌝ }
+    {
+        extent::check(base, length)
+    }
+
+    // A memory over the lent bytes, whatever the numbers: bytes that lie above $FFFFFF have no cell and keep their value.
+    pub fn new(base: u32, tag: u8, bytes: &'a mut [u8]) -> Memory<'a>
+        ensures memory { λ r. ⌜ r ≡ record { base = base; tag = tag; bytes = bytes .entry } ⌝ }
+        ensures cells { λ r. ⌜ memoryCells (r .tag) (r .base) (now (r .bytes)) ≡ memoryCells tag base (now (bytes .entry)) ⌝ }
+    {
+        Memory { base, tag, bytes }
+    }
+
+    fn cell(&self, address: Address) -> Cell
+        ensures { λ r. ⌜ r ≡ memoryCells (now (self .entry) .tag) (now (self .entry) .base) (now (now (self .entry) .bytes)) (address .value) ⌝ }
+    {
+        match extent::offset(self.base, self.bytes.len(), address) {
+            Some(offset) => Cell::Open {
+                byte: self.bytes[offset],
+            },
+            None => Cell::Silent { tag: self.tag },
+        }
+    }
+}
+
+pub impl Bus for Memory<'_> as MemoryBus {
+    ghost cells = { λ m. memoryCells (m .tag) (m .base) (now (m .bytes)) };
+
+    ghost shape = { λ m. memoryShape (m .tag) (m .base) (now (m .bytes)) (name (m .bytes)) };
+
+    fn kind(&self, address: u32) -> Result<Kind, Refusal> {
+        let at = Address::new(address)?;
+        Ok(self.cell(at).kind())
+    }
+
+    fn read(&self, address: u32) -> Result<u8, Refusal> {
+        let at = Address::new(address)?;
+        self.cell(at).read(at)
+    }
+
+    fn write(&mut self, address: u32, byte: u8) -> Result<(), Refusal> {
+        let at = Address::new(address)?;
+        self.cell(at).check_write(at)?;
+        let offset = (address - self.base) as usize;
+        self.bytes[offset] = byte;
+        Ok(())
+    }
+}
