@@ -36,3 +36,15 @@ abbrev pub written : ℕ → Cell → Cell
 written v (Silent t) = Silent t
 written v (Fixed b t) = Fixed b t
 written v (Open b) = Open v
+
+-- the tag of a cell; an open one has none, and 0 stands for it
+abbrev pub tagOf : Cell → ℕ
+tagOf (Silent t) = t
+tagOf (Fixed b t) = t
+tagOf (Open b) = 0
+
+-- the byte of a cell; a silent one has none, and 0 stands for it
+abbrev pub byteOf : Cell → ℕ
+byteOf (Silent t) = 0
+byteOf (Fixed b t) = b
+byteOf (Open b) = b

@@ -5,18 +5,18 @@ use mathlib.Core.List.{List, _∷_}
 use Prim.Native.Nat.{ℕ, _+_, _-_, _<_, _≤_}
 use native.Mathlib.Omega.{arith}
 use lib.Dec.{ltb, leb, eqb}
-use lib.ListN.{length, getD, set}
+use lib.ListN.{length, getD, set, replicate}
 use lib.Seq.{getD-set-same, getD-set-other, map-set-same}
+use Rattle.std.proofs.shelf.Lanes.{getD-replicate}
 use Rattle.std.proofs.shelf.Tests.{cases-eq, cases-lt}
 use Rattle.std.proofs.shelf.Ways.{tells}
-use Rattle.bus.specs.declared.cell.Cell.the-variants as cells
 use Rattle.bus.specs.declared.cell.Kind.the-variants.{Open}
 use Rattle.probe.specs.declared.bank.Register.{Register}
 use Rattle.probe.specs.declared.bank.ProbeBank.{ProbeBank}
 use Rattle.bus.specs.Address.{space}
 use Rattle.bus.specs.Cell.{kindOf, written}
 use Rattle.bus.specs.Contract.{Cells, put, holding, plain}
-use Rattle.probe.specs.Bank.{unset, register, registerCell, bankCells, bankShape, holdingByte, withRegister, replaced, setting, byteBehind}
+use Rattle.probe.specs.Bank.{unset, newBank, silentCells, register, registerCell, bankCells, bankShape, holdingByte, withRegister, replaced, setting, byteBehind}
 
 abbrev pub changed : ProbeBank → ℕ → Register → ProbeBank
 changed bank n r = record { base = bank .base; tag = bank .tag; registers = set (bank .registers) n r }
@@ -64,3 +64,7 @@ stored-shape bank a v full e =
     let same = getD-set-same (bank .registers) n r unset (omega arith) in
     let other = getD-set-other (bank .registers) n k r unset in
     grind (arith, tells, cases-eq k n)))
+
+-- no register of a new bank answers
+pub new-cells : (tag base : ℕ) → bankCells (newBank tag base) ≡ silentCells tag
+new-cells tag base = fun-ext (λ a. let u = getD-replicate 32 (a - base) unset unset in grind (arith, tells))

@@ -1,1 +1,2 @@
 mod Banks
+mod Told

@@ -1,4 +1,5 @@
 -- The probe bank: its registers, its cells, its shape, and what the host's settings make of them. Assumes nothing.
+use mathlib.Core.Path.{_≡_}
 use mathlib.Core.Bool.{Bool, true, false, cond, _&&_}
 use mathlib.Core.List.{List, [], _∷_, map}
 use Prim.Native.Nat.{ℕ, _+_}
@@ -24,6 +25,9 @@ unset = record { direction = Input; answering = false; byte = 0 }
 
 abbrev pub newBank : ℕ → ℕ → ProbeBank
 newBank tag base = record { base = base; tag = tag; registers = replicate 32 unset }
+
+abbrev pub silentCells : ℕ → Cells
+silentCells tag a = Silent tag
 
 abbrev pub register : ProbeBank → ℕ → Register
 register bank n = getD (bank .registers) n unset
@@ -75,6 +79,13 @@ byteBehind (Silent t) r = Open (r .byte)
 byteBehind (Fixed b t) r = Open (r .byte)
 byteBehind (Open b) r = Silent 0
 
+abbrev pub behindOf : ProbeBank → Cells
+behindOf bank n = byteBehind (bankCells bank (bank .base + n)) (register bank n)
+
 -- tag, base, direction and answering of each register, and the bytes of those that are not open
 abbrev pub bankShape : ProbeBank → Shape
-bankShape bank = holding (bank .tag ∷ bank .base ∷ map setting (bank .registers)) (λ n. byteBehind (bankCells bank (bank .base + n)) (register bank n)) plain plain
+bankShape bank = holding (bank .tag ∷ bank .base ∷ map setting (bank .registers)) (behindOf bank) plain plain
+
+-- cells and shape are all of a bank: another with the same is the same
+abbrev pub BankTold : ProbeBank → Type 0
+BankTold bank = (other : ProbeBank) → bankCells other ≡ bankCells bank → bankShape other ≡ bankShape bank → other ≡ bank

@@ -1,9 +1,7 @@
 // Image: fixed cells over lent bytes from a base address on, silent cells everywhere else.
 ghost use mathlib.Core.Path.{_≡_};
-ghost use denote.Ref.{now};
-ghost use lib.ListN.{length};
 ghost use Rattle.bus.specs.Extent.{fits};
-ghost use Rattle.storage.specs.Image.{imageCells, imageShape};
+ghost use Rattle.storage.specs.Image.{fixedFrom, imageCells, imageShape, ImageTold};
 use bus::address::Address;
 use bus::cell::Cell;
 use bus::cell::Kind;
@@ -29,13 +27,14 @@ impl<'a> Image<'a> {
     // An image of the lent bytes, whatever the numbers: bytes that lie above $FFFFFF have no cell.
     pub fn new(base: u32, tag: u8, bytes: &'a [u8]) -> Image<'a>
         ensures image { λ r. ⌜ r ≡ record { base = base; tag = tag; bytes = bytes .entry } ⌝ }
-        ensures cells { λ r. ⌜ imageCells (r .tag) (r .base) (now (r .bytes)) ≡ imageCells tag base (now (bytes .entry)) ⌝ }
+        ensures cells { λ r. ⌜ imageCells r ≡ fixedFrom tag base (now (bytes .entry)) ⌝ }
+        ensures told { λ r. ⌜ ImageTold r ⌝ }
     {
         Image { base, tag, bytes }
     }
 
     fn cell(&self, address: Address) -> Cell
-        ensures { λ r. ⌜ r ≡ imageCells (now (self .entry) .tag) (now (self .entry) .base) (now (now (self .entry) .bytes)) (address .value) ⌝ }
+        ensures { λ r. ⌜ r ≡ imageCells (now (self .entry)) (address .value) ⌝ }
     {
         match extent::offset(self.base, self.bytes.len(), address) {
             Some(offset) => Cell::Fixed {
@@ -48,9 +47,9 @@ impl<'a> Image<'a> {
 }
 
 pub impl Bus for Image<'_> as ImageBus {
-    ghost cells = { λ m. imageCells (m .tag) (m .base) (now (m .bytes)) };
+    ghost cells = { imageCells };
 
-    ghost shape = { λ m. imageShape (m .tag) (m .base) (now (m .bytes)) };
+    ghost shape = { imageShape };
 
     fn kind(&self, address: u32) -> Result<Kind, Refusal> {
         let at = Address::new(address)?;

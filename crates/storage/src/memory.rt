@@ -1,9 +1,7 @@
 // Memory: open cells over lent bytes from a base address on, silent cells everywhere else.
 ghost use mathlib.Core.Path.{_≡_};
-ghost use denote.Ref.{now, name};
-ghost use lib.ListN.{length};
 ghost use Rattle.bus.specs.Extent.{fits};
-ghost use Rattle.storage.specs.Memory.{memoryCells, memoryShape};
+ghost use Rattle.storage.specs.Memory.{openFrom, memoryCells, memoryShape, MemoryTold};
 use bus::address::Address;
 use bus::cell::Cell;
 use bus::cell::Kind;
@@ -29,13 +27,14 @@ impl<'a> Memory<'a> {
     // A memory over the lent bytes, whatever the numbers: bytes that lie above $FFFFFF have no cell and keep their value.
     pub fn new(base: u32, tag: u8, bytes: &'a mut [u8]) -> Memory<'a>
         ensures memory { λ r. ⌜ r ≡ record { base = base; tag = tag; bytes = bytes .entry } ⌝ }
-        ensures cells { λ r. ⌜ memoryCells (r .tag) (r .base) (now (r .bytes)) ≡ memoryCells tag base (now (bytes .entry)) ⌝ }
+        ensures cells { λ r. ⌜ memoryCells r ≡ openFrom tag base (now (bytes .entry)) ⌝ }
+        ensures told { λ r. ⌜ MemoryTold r ⌝ }
     {
         Memory { base, tag, bytes }
     }
 
     fn cell(&self, address: Address) -> Cell
-        ensures { λ r. ⌜ r ≡ memoryCells (now (self .entry) .tag) (now (self .entry) .base) (now (now (self .entry) .bytes)) (address .value) ⌝ }
+        ensures { λ r. ⌜ r ≡ memoryCells (now (self .entry)) (address .value) ⌝ }
     {
         match extent::offset(self.base, self.bytes.len(), address) {
             Some(offset) => Cell::Open {
@@ -47,9 +46,9 @@ impl<'a> Memory<'a> {
 }
 
 pub impl Bus for Memory<'_> as MemoryBus {
-    ghost cells = { λ m. memoryCells (m .tag) (m .base) (now (m .bytes)) };
+    ghost cells = { memoryCells };
 
-    ghost shape = { λ m. memoryShape (m .tag) (m .base) (now (m .bytes)) (name (m .bytes)) };
+    ghost shape = { memoryShape };
 
     fn kind(&self, address: u32) -> Result<Kind, Refusal> {
         let at = Address::new(address)?;

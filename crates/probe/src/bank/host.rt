@@ -2,7 +2,7 @@
 ghost use mathlib.Core.Path.{_≡_};
 ghost use Rattle.std.specs.declared.result.Result.the-variants.{Ok};
 ghost use Rattle.bus.specs.Extent.{fits};
-ghost use Rattle.probe.specs.Bank.{newBank, bankCells, inBank, register, withRegister, directed, answers, holdingByte, replaced};
+ghost use Rattle.probe.specs.Bank.{newBank, bankCells, silentCells, BankTold, inBank, register, withRegister, directed, answers, holdingByte, replaced};
 use super::Direction;
 use super::ProbeBank;
 use super::REGISTERS;
@@ -21,6 +21,8 @@ impl ProbeBank {
     // A bank of registers that do not answer, whatever the number: registers that lie above $FFFFFF have no cell.
     pub fn new(base: u32, tag: u8) -> ProbeBank
         ensures bank { λ r. ⌜ r ≡ newBank tag base ⌝ }
+        ensures cells { λ r. ⌜ bankCells r ≡ silentCells tag ⌝ }
+        ensures told { λ r. ⌜ BankTold r ⌝ }
     {
         let register = Register {
             direction: Direction::Input,
