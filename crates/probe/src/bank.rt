@@ -2,6 +2,8 @@
 mod cells;
 mod host;
 
+pub use cells::ProbeBankBus;
+
 // How many registers a bank has.
 pub const REGISTERS: u32 = 32;
 

@@ -1,0 +1,135 @@
+// The story that the program plays: eight hours, in two of which the moisture probe does not answer.
+use crate::dryer;
+use crate::log;
+use crate::plant;
+use crate::plant::Hour;
+use crate::report;
+use crate::tally::Tally;
+use bus::contract::Bus;
+use probe::bank::ProbeBank;
+use probe::bank::ProbeBankBus;
+use std::io;
+use storage::memory::Memory;
+use storage::memory::MemoryBus;
+
+const PROBES_TAG: u8 = 7;
+
+const SHIFT: [Hour; 8] = [
+    Hour {
+        moisture: 14,
+        temperature: 71,
+        moisture_answers: true,
+    },
+    Hour {
+        moisture: 12,
+        temperature: 88,
+        moisture_answers: true,
+    },
+    Hour {
+        moisture: 9,
+        temperature: 96,
+        moisture_answers: true,
+    },
+    Hour {
+        moisture: 9,
+        temperature: 104,
+        moisture_answers: false,
+    },
+    Hour {
+        moisture: 9,
+        temperature: 97,
+        moisture_answers: false,
+    },
+    Hour {
+        moisture: 11,
+        temperature: 82,
+        moisture_answers: true,
+    },
+    Hour {
+        moisture: 8,
+        temperature: 124,
+        moisture_answers: true,
+    },
+    Hour {
+        moisture: 7,
+        temperature: 90,
+        moisture_answers: true,
+    },
+];
+
+pub(crate) fn play(rt: &LibcRuntime) -> io::Result<()> {
+    let mut tally = Tally::new();
+    let mut log = [0u8; 8];
+    let mut probes = ProbeBank::new(dryer::PROBES, PROBES_TAG);
+    println!(
+        rt,
+        "A dryer tower: probes from ${:06X} on, tag {PROBES_TAG}; log from ${:06X} on, tag {}",
+        dryer::PROBES,
+        log::LOG,
+        log::LOG_TAG
+    )?;
+    report::set(rt, "the bank", plant::ready(&mut probes))?;
+    work_shift(rt, &mut probes, &mut log, &mut tally)?;
+    try_the_limits(rt, &mut probes, &mut log, &mut tally)?;
+    println!(rt, "log: {log:?}")?;
+    report::close(rt, tally)
+}
+
+fn work_shift(
+    rt: &LibcRuntime,
+    probes: &mut ProbeBank,
+    log: &mut [u8],
+    tally: &mut Tally,
+) -> io::Result<()> {
+    for number in 0..8u8 {
+        work_hour(rt, number, probes, log, tally)?;
+    }
+    Ok(())
+}
+
+// The host sets the hour's readings, the control does its round, and the log keeps the moisture.
+fn work_hour(
+    rt: &LibcRuntime,
+    number: u8,
+    probes: &mut ProbeBank,
+    log: &mut [u8],
+    tally: &mut Tally,
+) -> io::Result<()> {
+    let hour = SHIFT[(number % 8) as usize];
+    report::hour(rt, number, hour)?;
+    report::set(rt, "the readings", plant::observe(probes, hour))?;
+    let round = dryer::control(probes);
+    report::read(rt, "moisture", dryer::MOISTURE, round.moisture)?;
+    tally.count_read(round.moisture);
+    report::read(rt, "temperature", dryer::TEMPERATURE, round.temperature)?;
+    tally.count_read(round.temperature);
+    report::write(rt, "valve", dryer::VALVE, round.opening, round.valve)?;
+    tally.count_write(round.valve);
+    if let Ok(moisture) = round.moisture {
+        let noted = log::note(log, number, moisture);
+        report::write(rt, "log", log::LOG + number as u32, moisture, noted)?;
+        tally.count_write(noted);
+    }
+    Ok(())
+}
+
+// What no bus does: a write to a probe, a read behind the log, a read behind the last address, a setting of a register that is not there.
+fn try_the_limits(
+    rt: &LibcRuntime,
+    probes: &mut ProbeBank,
+    log: &mut [u8],
+    tally: &mut Tally,
+) -> io::Result<()> {
+    println!(rt, "after the shift")?;
+    let forged = probes.write(dryer::TEMPERATURE, 70);
+    report::write(rt, "temperature", dryer::TEMPERATURE, 70, forged)?;
+    tally.count_write(forged);
+    let high = probes.read(0x100_0000);
+    report::read(rt, "no cell", 0x100_0000, high)?;
+    tally.count_read(high);
+    let memory = Memory::new(log::LOG, log::LOG_TAG, log);
+    let behind = memory.read(log::LOG + 8);
+    report::read(rt, "behind log", log::LOG + 8, behind)?;
+    tally.count_read(behind);
+    report::set(rt, "register 32", probes.set_byte(32, 1))
+}
