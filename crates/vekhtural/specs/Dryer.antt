@@ -1,6 +1,7 @@
 -- What the control of a dryer tower reads and sets. Assumes nothing.
 use mathlib.Core.Path.{_≡_}
 use mathlib.Core.Bool.{cond}
+use mathlib.Core.Logic.{_⊎_}
 use Prim.Native.Nat.{ℕ, _*_, min}
 use lib.Dec.{ltb}
 use Rattle.std.specs.declared.result.Result.{Result}
@@ -38,4 +39,4 @@ controlled m = record { moisture = readAnswer m moistureAt; temperature = readAn
 
 -- a silent probe closes the valve: no last reading is held
 abbrev pub ClosesOnSilence : Cells → Cells → Type 0
-ClosesOnSilence before after = kindOf (before moistureAt) ≡ Silent → after valveAt ≡ written 0 (before valveAt)
+ClosesOnSilence before after = (probe : ℕ) → (probe ≡ moistureAt) ⊎ (probe ≡ temperatureAt) → kindOf (before probe) ≡ Silent → after valveAt ≡ written 0 (before valveAt)
