@@ -16,7 +16,7 @@ use Rattle.probe.specs.declared.bank.ProbeBank.{ProbeBank}
 use Rattle.bus.specs.Address.{space}
 use Rattle.bus.specs.Cell.{kindOf, written}
 use Rattle.bus.specs.Contract.{Cells, put, holding, plain}
-use Rattle.probe.specs.Bank.{unset, newBank, silentCells, register, registerCell, bankCells, bankShape, holdingByte, withRegister, replaced, setting, byteBehind}
+use Rattle.probe.specs.Bank.{unset, newBank, silentCells, registerOf, registerCell, bankCells, bankShape, holdingByte, withRegister, replaced, setting, byteBehind}
 
 abbrev pub changed : ProbeBank → ℕ → Register → ProbeBank
 changed bank n r = record { base = bank .base; tag = bank .tag; registers = set (bank .registers) n r }
@@ -29,10 +29,10 @@ changed-cell bank n r full h a =
 
 -- the cells of a bank of which one register was set
 pub set-cells : (bank : ProbeBank) (n : ℕ) (anew : Register → Register) → length (bank .registers) ≡ 32 → {x : ProbeBank} → x ≡ withRegister n anew bank → bankCells x ≡ replaced n anew bank
-set-cells bank n anew full e = ap bankCells e ∙ fun-ext (λ a. let same = changed-cell bank n (anew (register bank n)) full in grind (arith, tells, cases-lt n 32))
+set-cells bank n anew full e = ap bankCells e ∙ fun-ext (λ a. let same = changed-cell bank n (anew (registerOf bank n)) full in grind (arith, tells, cases-lt n 32))
 
 -- an open cell is that of a register that answers and is an output
-found : (bank : ProbeBank) (a : ℕ) → kindOf (bankCells bank a) ≡ Open → (a < space) × (bank .base ≤ a) × (a - bank .base < 32) × (kindOf (registerCell (bank .tag) (register bank (a - bank .base))) ≡ Open)
+found : (bank : ProbeBank) (a : ℕ) → kindOf (bankCells bank a) ≡ Open → (a < space) × (bank .base ≤ a) × (a - bank .base < 32) × (kindOf (registerCell (bank .tag) (registerOf bank (a - bank .base))) ≡ Open)
 found bank a e = (grind (arith, tells), grind (arith, tells), grind (arith, tells), grind (arith, tells))
 
 opened : (tag v : ℕ) (r : Register) → kindOf (registerCell tag r) ≡ Open → registerCell tag (holdingByte v r) ≡ written v (registerCell tag r)
@@ -40,27 +40,27 @@ opened tag v r e = grind (arith, tells)
 
 -- the bank after v was stored at an address
 abbrev pub stored : ProbeBank → ℕ → ℕ → ProbeBank
-stored bank a v = changed bank (a - bank .base) (holdingByte v (register bank (a - bank .base)))
+stored bank a v = changed bank (a - bank .base) (holdingByte v (registerOf bank (a - bank .base)))
 
 pub stored-cells : (bank : ProbeBank) (a v : ℕ) → length (bank .registers) ≡ 32 → kindOf (bankCells bank a) ≡ Open → bankCells (stored bank a v) ≡ put (bankCells bank) a v
 stored-cells bank a v full e =
     let f = found bank a e in
     let n = a - bank .base in
     fun-ext (λ k.
-    let c = changed-cell bank n (holdingByte v (register bank n)) full (f .2) k in
-    let o = opened (bank .tag) v (register bank n) (f .3) in
+    let c = changed-cell bank n (holdingByte v (registerOf bank n)) full (f .2) k in
+    let o = opened (bank .tag) v (registerOf bank n) (f .3) in
     grind (arith, tells))
 
 pub stored-shape : (bank : ProbeBank) (a v : ℕ) → length (bank .registers) ≡ 32 → kindOf (bankCells bank a) ≡ Open → bankShape (stored bank a v) ≡ bankShape bank
 stored-shape bank a v full e =
     let f = found bank a e in
     let n = a - bank .base in
-    let r = holdingByte v (register bank n) in
+    let r = holdingByte v (registerOf bank n) in
     ap₂ (λ (xs : List ℕ) (hidden : Cells). holding (bank .tag ∷ bank .base ∷ xs) hidden plain plain)
     (map-set-same setting (bank .registers) n r unset refl)
     (fun-ext (λ k.
     let c = changed-cell bank n r full (f .2) (bank .base + k) in
-    let o = opened (bank .tag) v (register bank n) (f .3) in
+    let o = opened (bank .tag) v (registerOf bank n) (f .3) in
     let same = getD-set-same (bank .registers) n r unset (omega arith) in
     let other = getD-set-other (bank .registers) n k r unset in
     grind (arith, tells, cases-eq k n)))

@@ -12,7 +12,7 @@ use Rattle.probe.specs.declared.bank.Direction.{Direction}
 use Rattle.probe.specs.declared.bank.Direction.the-variants.{Input, Output}
 use Rattle.probe.specs.declared.bank.Register.{Register}
 use Rattle.probe.specs.declared.bank.ProbeBank.{ProbeBank}
-use Rattle.probe.specs.Bank.{unset, register, registerCell, bankCells, bankShape, setting, byteBehind, behindOf, BankTold}
+use Rattle.probe.specs.Bank.{unset, registerOf, registerCell, bankCells, bankShape, setting, byteBehind, behindOf, BankTold}
 
 same-answering : (r s : Register) → setting r ≡ setting s → r .answering ≡ s .answering
 same-answering r s e = grind (arith, tells)
@@ -21,7 +21,7 @@ same-direction : (r s : Register) → setting r ≡ setting s → r .direction �
 same-direction r s e = grind (arith, tells)
 
 -- the byte of a register: shown where the cell is open, behind it elsewhere
-same-byte : (bank other : ProbeBank) (i : ℕ) → bankCells other (other .base + i) ≡ bankCells bank (bank .base + i) → byteBehind (bankCells other (other .base + i)) (register other i) ≡ byteBehind (bankCells bank (bank .base + i)) (register bank i) → register other i .byte ≡ register bank i .byte
+same-byte : (bank other : ProbeBank) (i : ℕ) → bankCells other (other .base + i) ≡ bankCells bank (bank .base + i) → byteBehind (bankCells other (other .base + i)) (registerOf other i) ≡ byteBehind (bankCells bank (bank .base + i)) (registerOf bank i) → registerOf other i .byte ≡ registerOf bank i .byte
 same-byte bank other i shown behind = grind (arith, tells)
 
 same-register : (r s : Register) → setting r ≡ setting s → r .byte ≡ s .byte → r ≡ s
@@ -35,7 +35,7 @@ bank-told bank other shown kept =
     let el : length (other .registers) ≡ length (bank .registers) = sym (length-map (other .registers) setting) ∙ ap length es ∙ length-map (bank .registers) setting in
     let behind : behindOf other ≡ behindOf bank = cc in
     let er : other .registers ≡ bank .registers = ext-getD unset (other .registers) (bank .registers) el (λ i h.
-    same-register (register other i) (register bank i)
+    same-register (registerOf other i) (registerOf bank i)
     (sym (getD-map setting (other .registers) i unset 0 h) ∙ ap (λ xs. getD xs i 0) es ∙ getD-map setting (bank .registers) i unset 0 (omega arith))
     (same-byte bank other i (ap (λ (m : Cells). m (other .base + i)) shown ∙ ap (λ b. bankCells bank (b + i)) eb) (ap (λ (m : Cells). m i) behind))) in
     λ i. record { base = eb i; tag = et i; registers = er i }

@@ -29,19 +29,19 @@ newBank tag base = record { base = base; tag = tag; registers = replicate 32 uns
 abbrev pub silentCells : ℕ → Cells
 silentCells tag a = Silent tag
 
-abbrev pub register : ProbeBank → ℕ → Register
-register bank n = getD (bank .registers) n unset
+abbrev pub registerOf : ProbeBank → ℕ → Register
+registerOf bank n = getD (bank .registers) n unset
 
 -- the cell of a register that answers
-abbrev pub answering : ℕ → Direction → ℕ → Cell
-answering tag Input b = Fixed b tag
-answering tag Output b = Open b
+abbrev pub activeCell : ℕ → Direction → ℕ → Cell
+activeCell tag Input b = Fixed b tag
+activeCell tag Output b = Open b
 
 abbrev pub registerCell : ℕ → Register → Cell
-registerCell tag r = cond (r .answering) (answering tag (r .direction) (r .byte)) (Silent tag)
+registerCell tag r = cond (r .answering) (activeCell tag (r .direction) (r .byte)) (Silent tag)
 
 abbrev pub bankCells : ProbeBank → Cells
-bankCells bank = stretch (bank .tag) (bank .base) 32 (λ n. registerCell (bank .tag) (register bank n))
+bankCells bank = stretch (bank .tag) (bank .base) 32 (λ n. registerCell (bank .tag) (registerOf bank n))
 
 -- an answer for the number of a register, and the refusal for any other
 abbrev pub inBank : {A : Type 0} → ℕ → Result A Refusal → Result A Refusal
@@ -59,11 +59,11 @@ holdingByte b r = record { direction = r .direction; answering = r .answering; b
 
 -- the bank with one register set anew and the others as they were; unchanged where there is no such register
 abbrev pub withRegister : ℕ → (Register → Register) → ProbeBank → ProbeBank
-withRegister n anew bank = record { base = bank .base; tag = bank .tag; registers = cond (ltb n 32) (set (bank .registers) n (anew (register bank n))) (bank .registers) }
+withRegister n anew bank = record { base = bank .base; tag = bank .tag; registers = cond (ltb n 32) (set (bank .registers) n (anew (registerOf bank n))) (bank .registers) }
 
 -- the cells with that of one register replaced, the others as they were
 abbrev pub replaced : ℕ → (Register → Register) → ProbeBank → Cells
-replaced n anew bank a = cond (ltb n 32 && (ltb a space && eqb a (bank .base + n))) (registerCell (bank .tag) (anew (register bank n))) (bankCells bank a)
+replaced n anew bank a = cond (ltb n 32 && (ltb a space && eqb a (bank .base + n))) (registerCell (bank .tag) (anew (registerOf bank n))) (bankCells bank a)
 
 abbrev pub directionNumber : Direction → ℕ
 directionNumber Input = 0
@@ -80,7 +80,7 @@ byteBehind (Fixed b t) r = Open (r .byte)
 byteBehind (Open b) r = Silent 0
 
 abbrev pub behindOf : ProbeBank → Cells
-behindOf bank n = byteBehind (bankCells bank (bank .base + n)) (register bank n)
+behindOf bank n = byteBehind (bankCells bank (bank .base + n)) (registerOf bank n)
 
 -- tag, base, direction and answering of each register, and the bytes of those that are not open
 abbrev pub bankShape : ProbeBank → Shape

@@ -1,5 +1,8 @@
 // Memory: open cells over lent bytes from a base address on, silent cells everywhere else.
 ghost use mathlib.Core.Path.{_≡_};
+ghost use Rattle.bus.specs.declared.cell.Kind.the-variants.{Open};
+ghost use Rattle.bus.specs.Cell.{kindOf};
+ghost use Rattle.bus.specs.Contract.{put};
 ghost use Rattle.bus.specs.Extent.{fits};
 ghost use Rattle.storage.specs.Memory.{openFrom, memoryCells, memoryShape, MemoryTold};
 use bus::address::Address;
@@ -43,6 +46,16 @@ impl<'a> Memory<'a> {
             None => Cell::Silent { tag: self.tag },
         }
     }
+
+    // Puts the byte into an open cell.
+    fn store(&mut self, address: Address, byte: u8)
+        requires { ⌜ kindOf (memoryCells (now self) (address .value)) ≡ Open ⌝ }
+        ensures after { λ _. ⌜ memoryCells (now (self .exit)) ≡ put (memoryCells (now (self .entry))) (address .value) byte ⌝ }
+        ensures kept { λ _. ⌜ memoryShape (now (self .exit)) ≡ memoryShape (now (self .entry)) ⌝ }
+    {
+        let offset = (address.value() - self.base) as usize;
+        self.bytes[offset] = byte;
+    }
 }
 
 pub impl Bus for Memory<'_> as MemoryBus {
@@ -63,8 +76,7 @@ pub impl Bus for Memory<'_> as MemoryBus {
     fn write(&mut self, address: u32, byte: u8) -> Result<(), Refusal> {
         let at = Address::new(address)?;
         self.cell(at).check_write(at)?;
-        let offset = (address - self.base) as usize;
-        self.bytes[offset] = byte;
+        self.store(at, byte);
         Ok(())
     }
 }

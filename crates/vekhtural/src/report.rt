@@ -1,8 +1,8 @@
 // The lines that the program prints.
-use crate::plant::Hour;
-use crate::tally::Tally;
 use bus::refusal::Fault;
 use bus::refusal::Refusal;
+use dryer::plant::Hour;
+use dryer::tally::Tally;
 use std::fmt;
 use std::io;
 

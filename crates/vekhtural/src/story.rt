@@ -1,11 +1,11 @@
 // The story that the program plays: eight hours, in two of which the moisture probe does not answer.
-use crate::dryer;
-use crate::log;
-use crate::plant;
-use crate::plant::Hour;
 use crate::report;
-use crate::tally::Tally;
 use bus::contract::Bus;
+use dryer::control;
+use dryer::log;
+use dryer::plant;
+use dryer::plant::Hour;
+use dryer::tally::Tally;
 use probe::bank::ProbeBank;
 use probe::bank::ProbeBankBus;
 use std::io;
@@ -14,57 +14,26 @@ use storage::memory::MemoryBus;
 
 const PROBES_TAG: u8 = 7;
 
-const SHIFT: [Hour; 8] = [
-    Hour {
-        moisture: 14,
-        temperature: 71,
-        moisture_answers: true,
-    },
-    Hour {
-        moisture: 12,
-        temperature: 88,
-        moisture_answers: true,
-    },
-    Hour {
-        moisture: 9,
-        temperature: 96,
-        moisture_answers: true,
-    },
-    Hour {
-        moisture: 9,
-        temperature: 104,
-        moisture_answers: false,
-    },
-    Hour {
-        moisture: 9,
-        temperature: 97,
-        moisture_answers: false,
-    },
-    Hour {
-        moisture: 11,
-        temperature: 82,
-        moisture_answers: true,
-    },
-    Hour {
-        moisture: 8,
-        temperature: 124,
-        moisture_answers: true,
-    },
-    Hour {
-        moisture: 7,
-        temperature: 90,
-        moisture_answers: true,
-    },
+// For each hour moisture, temperature, and whether the moisture probe answers.
+const SHIFT: [(u8, u8, bool); 8] = [
+    (14, 71, true),
+    (12, 88, true),
+    (9, 96, true),
+    (9, 104, false),
+    (9, 97, false),
+    (11, 82, true),
+    (8, 124, true),
+    (7, 90, true),
 ];
 
 pub(crate) fn play(rt: &LibcRuntime) -> io::Result<()> {
     let mut tally = Tally::new();
     let mut log = [0u8; 8];
-    let mut probes = ProbeBank::new(dryer::PROBES, PROBES_TAG);
+    let mut probes = ProbeBank::new(control::PROBES, PROBES_TAG);
     println!(
         rt,
         "A dryer tower: probes from ${:06X} on, tag {PROBES_TAG}; log from ${:06X} on, tag {}",
-        dryer::PROBES,
+        control::PROBES,
         log::LOG,
         log::LOG_TAG
     )?;
@@ -95,15 +64,20 @@ fn work_hour(
     log: &mut [u8],
     tally: &mut Tally,
 ) -> io::Result<()> {
-    let hour = SHIFT[(number % 8) as usize];
+    let (moisture, temperature, moisture_answers) = SHIFT[(number % 8) as usize];
+    let hour = Hour {
+        moisture,
+        temperature,
+        moisture_answers,
+    };
     report::hour(rt, number, hour)?;
     report::set(rt, "the readings", plant::observe(probes, hour))?;
-    let round = dryer::control(probes);
-    report::read(rt, "moisture", dryer::MOISTURE, round.moisture)?;
+    let round = control::control(probes);
+    report::read(rt, "moisture", control::MOISTURE, round.moisture)?;
     tally.count_read(round.moisture);
-    report::read(rt, "temperature", dryer::TEMPERATURE, round.temperature)?;
+    report::read(rt, "temperature", control::TEMPERATURE, round.temperature)?;
     tally.count_read(round.temperature);
-    report::write(rt, "valve", dryer::VALVE, round.opening, round.valve)?;
+    report::write(rt, "valve", control::VALVE, round.opening, round.valve)?;
     tally.count_write(round.valve);
     if let Ok(moisture) = round.moisture {
         let noted = log::note(log, number, moisture);
@@ -121,8 +95,8 @@ fn try_the_limits(
     tally: &mut Tally,
 ) -> io::Result<()> {
     println!(rt, "after the shift")?;
-    let forged = probes.write(dryer::TEMPERATURE, 70);
-    report::write(rt, "temperature", dryer::TEMPERATURE, 70, forged)?;
+    let forged = probes.write(control::TEMPERATURE, 70);
+    report::write(rt, "temperature", control::TEMPERATURE, 70, forged)?;
     tally.count_write(forged);
     let high = probes.read(0x100_0000);
     report::read(rt, "no cell", 0x100_0000, high)?;

@@ -1,5 +1,8 @@
 // The probe bank as a bus.
 ghost use mathlib.Core.Path.{_≡_};
+ghost use Rattle.bus.specs.declared.cell.Kind.the-variants.{Open};
+ghost use Rattle.bus.specs.Cell.{kindOf};
+ghost use Rattle.bus.specs.Contract.{put};
 ghost use Rattle.probe.specs.Bank.{registerCell, bankCells, bankShape};
 use super::Direction;
 use super::ProbeBank;
@@ -36,6 +39,16 @@ impl ProbeBank {
             None => Cell::Silent { tag: self.tag },
         }
     }
+
+    // Puts the byte into an open cell.
+    fn store(&mut self, address: Address, byte: u8)
+        requires { ⌜ kindOf (bankCells (now self) (address .value)) ≡ Open ⌝ }
+        ensures after { λ _. ⌜ bankCells (now (self .exit)) ≡ put (bankCells (now (self .entry))) (address .value) byte ⌝ }
+        ensures kept { λ _. ⌜ bankShape (now (self .exit)) ≡ bankShape (now (self .entry)) ⌝ }
+    {
+        let number = (address.value() - self.base) as usize;
+        self.registers[number].byte = byte;
+    }
 }
 
 pub impl Bus for ProbeBank as ProbeBankBus {
@@ -56,8 +69,7 @@ pub impl Bus for ProbeBank as ProbeBankBus {
     fn write(&mut self, address: u32, byte: u8) -> Result<(), Refusal> {
         let at = Address::new(address)?;
         self.cell(at).check_write(at)?;
-        let number = (address - self.base) as usize;
-        self.registers[number].byte = byte;
+        self.store(at, byte);
         Ok(())
     }
 }

@@ -2,7 +2,7 @@
 ghost use mathlib.Core.Path.{_≡_};
 ghost use Rattle.std.specs.declared.result.Result.the-variants.{Ok};
 ghost use Rattle.bus.specs.Extent.{fits};
-ghost use Rattle.probe.specs.Bank.{newBank, bankCells, silentCells, BankTold, inBank, register, withRegister, directed, answers, holdingByte, replaced};
+ghost use Rattle.probe.specs.Bank.{newBank, bankCells, silentCells, BankTold, inBank, registerOf, withRegister, directed, answers, holdingByte, replaced};
 use super::Direction;
 use super::ProbeBank;
 use super::REGISTERS;
@@ -38,7 +38,7 @@ impl ProbeBank {
 
     // What a register is set to.
     pub fn register(&self, number: u32) -> Result<Register, Refusal>
-        ensures { λ r. ⌜ r ≡ inBank number (Ok (register (now (self .entry)) number)) ⌝ }
+        ensures { λ r. ⌜ r ≡ inBank number (Ok (registerOf (now (self .entry)) number)) ⌝ }
     {
         let place = place(number)?;
         Ok(self.registers[place])
