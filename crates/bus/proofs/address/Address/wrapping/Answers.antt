@@ -1,4 +1,3 @@
-use mathlib.Core.Path.{refl}
 use borrow.Author.Needs.{needs}
 use Rattle.bus.specs.Address.{at}
 use Rattle.bus.proofs.Addresses.{same-number}
@@ -6,4 +5,4 @@ use Rattle.bus.proofs.address.Address.wrapping.Needs as need
 
 pub returns : need.returns
 unfolding at
-returns c = record { value = search needs; address = same-number _ (at (c .args .number)) refl }
+returns c = record { address = search (needs, same-number); value = search needs }
