@@ -16,7 +16,7 @@ use Rattle.probe.specs.declared.bank.ProbeBank.{ProbeBank}
 use Rattle.bus.specs.Address.{space}
 use Rattle.bus.specs.Cell.{kindOf, written}
 use Rattle.bus.specs.Contract.{Cells, put, holding, plain}
-use Rattle.probe.specs.Bank.{unset, newBank, silentCells, registerOf, registerCell, bankCells, bankShape, holdingByte, withRegister, replaced, setting, byteBehind}
+use Rattle.probe.specs.Bank.{unset, newBank, silentCells, registerOf, registerCell, bankCells, bankShape, holdingByte, withRegister, replaced, setting, hiddenByte}
 
 abbrev pub changed : ProbeBank → ℕ → Register → ProbeBank
 changed bank n r = record { base = bank .base; tag = bank .tag; registers = set (bank .registers) n r }
@@ -28,8 +28,8 @@ changed-cell bank n r full h a =
     grind (arith, tells, cases-eq (a - bank .base) n)
 
 -- the cells of a bank of which one register was set
-pub set-cells : (bank : ProbeBank) (n : ℕ) (anew : Register → Register) → length (bank .registers) ≡ 32 → {x : ProbeBank} → x ≡ withRegister n anew bank → bankCells x ≡ replaced n anew bank
-set-cells bank n anew full e = ap bankCells e ∙ fun-ext (λ a. let same = changed-cell bank n (anew (registerOf bank n)) full in grind (arith, tells, cases-lt n 32))
+pub set-cells : (bank : ProbeBank) (n : ℕ) (change : Register → Register) → length (bank .registers) ≡ 32 → {x : ProbeBank} → x ≡ withRegister n change bank → bankCells x ≡ replaced n change bank
+set-cells bank n change full e = ap bankCells e ∙ fun-ext (λ a. let same = changed-cell bank n (change (registerOf bank n)) full in grind (arith, tells, cases-lt n 32))
 
 -- an open cell is that of a register that answers and is an output
 found : (bank : ProbeBank) (a : ℕ) → kindOf (bankCells bank a) ≡ Open → (a < space) × (bank .base ≤ a) × (a - bank .base < 32) × (kindOf (registerCell (bank .tag) (registerOf bank (a - bank .base))) ≡ Open)

@@ -1,2 +1,2 @@
 mod Banks
-mod Told
+mod Determined

@@ -57,13 +57,13 @@ answers t r = record { direction = r .direction; answering = t; byte = r .byte }
 abbrev pub holdingByte : ℕ → Register → Register
 holdingByte b r = record { direction = r .direction; answering = r .answering; byte = b }
 
--- the bank with one register set anew and the others as they were; unchanged where there is no such register
+-- the bank with one register set change and the others as they were; unchanged where there is no such register
 abbrev pub withRegister : ℕ → (Register → Register) → ProbeBank → ProbeBank
-withRegister n anew bank = record { base = bank .base; tag = bank .tag; registers = cond (ltb n 32) (set (bank .registers) n (anew (registerOf bank n))) (bank .registers) }
+withRegister n change bank = record { base = bank .base; tag = bank .tag; registers = cond (ltb n 32) (set (bank .registers) n (change (registerOf bank n))) (bank .registers) }
 
 -- the cells with that of one register replaced, the others as they were
 abbrev pub replaced : ℕ → (Register → Register) → ProbeBank → Cells
-replaced n anew bank a = cond (ltb n 32 && (ltb a space && eqb a (bank .base + n))) (registerCell (bank .tag) (anew (registerOf bank n))) (bankCells bank a)
+replaced n change bank a = cond (ltb n 32 && (ltb a space && eqb a (bank .base + n))) (registerCell (bank .tag) (change (registerOf bank n))) (bankCells bank a)
 
 abbrev pub directionNumber : Direction → ℕ
 directionNumber Input = 0
@@ -74,18 +74,18 @@ abbrev pub setting : Register → ℕ
 setting r = directionNumber (r .direction) + cond (r .answering) 2 0
 
 -- a register's byte, left out where its cell is open, since that shows the byte and takes another
-abbrev pub byteBehind : Cell → Register → Cell
-byteBehind (Silent t) r = Open (r .byte)
-byteBehind (Fixed b t) r = Open (r .byte)
-byteBehind (Open b) r = Silent 0
+abbrev pub hiddenByte : Cell → Register → Cell
+hiddenByte (Silent t) r = Open (r .byte)
+hiddenByte (Fixed b t) r = Open (r .byte)
+hiddenByte (Open b) r = Silent 0
 
-abbrev pub behindOf : ProbeBank → Cells
-behindOf bank n = byteBehind (bankCells bank (bank .base + n)) (registerOf bank n)
+abbrev pub hiddenBytes : ProbeBank → Cells
+hiddenBytes bank n = hiddenByte (bankCells bank (bank .base + n)) (registerOf bank n)
 
 -- tag, base, direction and answering of each register, and the bytes of those that are not open
 abbrev pub bankShape : ProbeBank → Shape
-bankShape bank = holding (bank .tag ∷ bank .base ∷ map setting (bank .registers)) (behindOf bank) plain plain
+bankShape bank = holding (bank .tag ∷ bank .base ∷ map setting (bank .registers)) (hiddenBytes bank) plain plain
 
 -- cells and shape are all of a bank: another with the same is the same
-abbrev pub BankTold : ProbeBank → Type 0
-BankTold bank = (other : ProbeBank) → bankCells other ≡ bankCells bank → bankShape other ≡ bankShape bank → other ≡ bank
+abbrev pub BankDetermined : ProbeBank → Type 0
+BankDetermined bank = (other : ProbeBank) → bankCells other ≡ bankCells bank → bankShape other ≡ bankShape bank → other ≡ bank

@@ -1,2 +1,2 @@
-pub mod Settled
-mod Told
+pub mod Lender
+mod Determined

@@ -21,5 +21,5 @@ abbrev pub imageShape : Image → Shape
 imageShape m = holding (m .tag ∷ m .base ∷ length (now (m .bytes)) ∷ []) (leftOut (m .base) (λ i. Fixed (getD (now (m .bytes)) i 0) (m .tag))) plain plain
 
 -- cells and shape are all of an image: another with the same has the same numbers and the same bytes
-abbrev pub ImageTold : Image → Type 0
-ImageTold m = (other : Image) → imageCells other ≡ imageCells m → imageShape other ≡ imageShape m → (other .tag ≡ m .tag) × (other .base ≡ m .base) × (now (other .bytes) ≡ now (m .bytes))
+abbrev pub ImageDetermined : Image → Type 0
+ImageDetermined m = (other : Image) → imageCells other ≡ imageCells m → imageShape other ≡ imageShape m → (other .tag ≡ m .tag) × (other .base ≡ m .base) × (now (other .bytes) ≡ now (m .bytes))

@@ -24,8 +24,8 @@ abbrev pub memoryShape : Memory → Shape
 memoryShape m = holding (m .tag ∷ m .base ∷ length (now (m .bytes)) ∷ name (m .bytes) ∷ []) (leftOut (m .base) (λ i. Open (getD (now (m .bytes)) i 0))) plain plain
 
 -- cells and shape are all of a memory: another with the same has the same numbers, the same lender and the same bytes
-abbrev pub MemoryTold : Memory → Type 0
-MemoryTold m = (other : Memory) → memoryCells other ≡ memoryCells m → memoryShape other ≡ memoryShape m → (other .tag ≡ m .tag) × (other .base ≡ m .base) × (name (other .bytes) ≡ name (m .bytes)) × (now (other .bytes) ≡ now (m .bytes))
+abbrev pub MemoryDetermined : Memory → Type 0
+MemoryDetermined m = (other : Memory) → memoryCells other ≡ memoryCells m → memoryShape other ≡ memoryShape m → (other .tag ≡ m .tag) × (other .base ≡ m .base) × (name (other .bytes) ≡ name (m .bytes)) × (now (other .bytes) ≡ now (m .bytes))
 
 -- the bytes of the first n cells from the base on
 abbrev pub bytesFrom : Cells → ℕ → ℕ → List ℕ

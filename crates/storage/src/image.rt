@@ -1,7 +1,7 @@
 // Image: fixed cells over lent bytes from a base address on, silent cells everywhere else.
 ghost use mathlib.Core.Path.{_≡_};
 ghost use Rattle.bus.specs.Extent.{fits};
-ghost use Rattle.storage.specs.Image.{fixedFrom, imageCells, imageShape, ImageTold};
+ghost use Rattle.storage.specs.Image.{fixedFrom, imageCells, imageShape, ImageDetermined};
 use bus::address::Address;
 use bus::cell::Cell;
 use bus::cell::Kind;
@@ -28,7 +28,7 @@ impl<'a> Image<'a> {
     pub fn new(base: u32, tag: u8, bytes: &'a [u8]) -> Image<'a>
         ensures image { λ r. ⌜ r ≡ record { base = base; tag = tag; bytes = bytes .entry } ⌝ }
         ensures cells { λ r. ⌜ imageCells r ≡ fixedFrom tag base (now (bytes .entry)) ⌝ }
-        ensures told { λ r. ⌜ ImageTold r ⌝ }
+        ensures determined { λ r. ⌜ ImageDetermined r ⌝ }
     {
         Image { base, tag, bytes }
     }

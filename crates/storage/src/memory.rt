@@ -4,7 +4,7 @@ ghost use Rattle.bus.specs.declared.cell.Kind.the-variants.{Open};
 ghost use Rattle.bus.specs.Cell.{kindOf};
 ghost use Rattle.bus.specs.Contract.{put};
 ghost use Rattle.bus.specs.Extent.{fits};
-ghost use Rattle.storage.specs.Memory.{openFrom, memoryCells, memoryShape, MemoryTold};
+ghost use Rattle.storage.specs.Memory.{openFrom, memoryCells, memoryShape, MemoryDetermined};
 use bus::address::Address;
 use bus::cell::Cell;
 use bus::cell::Kind;
@@ -31,7 +31,7 @@ impl<'a> Memory<'a> {
     pub fn new(base: u32, tag: u8, bytes: &'a mut [u8]) -> Memory<'a>
         ensures memory { λ r. ⌜ r ≡ record { base = base; tag = tag; bytes = bytes .entry } ⌝ }
         ensures cells { λ r. ⌜ memoryCells r ≡ openFrom tag base (now (bytes .entry)) ⌝ }
-        ensures told { λ r. ⌜ MemoryTold r ⌝ }
+        ensures determined { λ r. ⌜ MemoryDetermined r ⌝ }
     {
         Memory { base, tag, bytes }
     }

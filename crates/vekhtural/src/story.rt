@@ -39,7 +39,7 @@ pub(crate) fn play(rt: &LibcRuntime) -> io::Result<()> {
     )?;
     report::set(rt, "the bank", plant::ready(&mut probes))?;
     work_shift(rt, &mut probes, &mut log, &mut tally)?;
-    try_the_limits(rt, &mut probes, &mut log, &mut tally)?;
+    try_refusals(rt, &mut probes, &mut log, &mut tally)?;
     println!(rt, "log: {log:?}")?;
     report::close(rt, tally)
 }
@@ -87,23 +87,23 @@ fn work_hour(
     Ok(())
 }
 
-// What no bus does: a write to a probe, a read behind the log, a read behind the last address, a setting of a register that is not there.
-fn try_the_limits(
+// What is refused on any day: a write to a probe, a read above the last address, a read past the log, a setting of a register that is not there.
+fn try_refusals(
     rt: &LibcRuntime,
     probes: &mut ProbeBank,
     log: &mut [u8],
     tally: &mut Tally,
 ) -> io::Result<()> {
     println!(rt, "after the shift")?;
-    let forged = probes.write(control::TEMPERATURE, 70);
-    report::write(rt, "temperature", control::TEMPERATURE, 70, forged)?;
-    tally.count_write(forged);
+    let overwrite = probes.write(control::TEMPERATURE, 70);
+    report::write(rt, "temperature", control::TEMPERATURE, 70, overwrite)?;
+    tally.count_write(overwrite);
     let high = probes.read(0x100_0000);
-    report::read(rt, "no cell", 0x100_0000, high)?;
+    report::read(rt, "no address", 0x100_0000, high)?;
     tally.count_read(high);
     let memory = Memory::new(log::LOG, log::LOG_TAG, log);
-    let behind = memory.read(log::LOG + 8);
-    report::read(rt, "behind log", log::LOG + 8, behind)?;
-    tally.count_read(behind);
+    let past = memory.read(log::LOG + 8);
+    report::read(rt, "past the log", log::LOG + 8, past)?;
+    tally.count_read(past);
     report::set(rt, "register 32", probes.set_byte(32, 1))
 }

@@ -2,7 +2,7 @@
 ghost use mathlib.Core.Path.{_≡_};
 ghost use Rattle.std.specs.declared.result.Result.the-variants.{Ok};
 ghost use Rattle.bus.specs.Extent.{fits};
-ghost use Rattle.probe.specs.Bank.{newBank, bankCells, silentCells, BankTold, inBank, registerOf, withRegister, directed, answers, holdingByte, replaced};
+ghost use Rattle.probe.specs.Bank.{newBank, bankCells, silentCells, BankDetermined, inBank, registerOf, withRegister, directed, answers, holdingByte, replaced};
 use super::Direction;
 use super::ProbeBank;
 use super::REGISTERS;
@@ -22,7 +22,7 @@ impl ProbeBank {
     pub fn new(base: u32, tag: u8) -> ProbeBank
         ensures bank { λ r. ⌜ r ≡ newBank tag base ⌝ }
         ensures cells { λ r. ⌜ bankCells r ≡ silentCells tag ⌝ }
-        ensures told { λ r. ⌜ BankTold r ⌝ }
+        ensures determined { λ r. ⌜ BankDetermined r ⌝ }
     {
         let register = Register {
             direction: Direction::Input,

@@ -5,15 +5,15 @@ use lib.ListN.{length}
 use borrow.Author.Needs.{needs}
 use Rattle.std.proofs.shelf.Tests.{cond-true, leb-true}
 use Rattle.bus.specs.Address.{space}
-use Rattle.storage.proofs.Settled.{settled, put-bytes}
+use Rattle.storage.proofs.Lender.{lender-has, put-bytes}
 use Rattle.dryer.specs.Log.{hasRoom}
 use Rattle.dryer.proofs.log.note.Needs as need
 
 pub returns : need.returns
 returns c =
     let log = c .args .log .now in
-    let told : hasRoom log ≡ true = search needs in
-    let room : 4096 + length log ≤ space = leb-true _ _ told in
+    let fits : hasRoom log ≡ true = search needs in
+    let room : 4096 + length log ≤ space = leb-true _ _ fits in
     let d = simp (c .new-memory .ensures .memory) at (c .store .ensures) in
-    let s = settled (c .store .last .bus) _ _ _ _ _ _ _ (d .kept) (search needs) (d .after) room in
-    record { answer = search needs; bytes = s ∙ put-bytes 1 4096 log (c .args .hour) (c .args .byte) room ∙ sym (cond-true _ _ _ told) }
+    let s = lender-has (c .store .last .bus) _ _ _ _ _ _ _ (d .kept) (search needs) (d .after) room in
+    record { answer = search needs; bytes = s ∙ put-bytes 1 4096 log (c .args .hour) (c .args .byte) room ∙ sym (cond-true _ _ _ fits) }

@@ -1,4 +1,4 @@
--- Memory and image are told by their cells and their shape: a byte that has an address by its cell, any other by the cells left out.
+-- Cells and shape determine a memory and an image: a byte that has an address comes from its cell, any other from the cells left out.
 use mathlib.Core.Path.{_≡_, refl, ap, sym, _∙_}
 use mathlib.Core.List.{List, _∷_}
 use mathlib.Core.Logic.{⊎-elim}
@@ -17,17 +17,17 @@ use Rattle.bus.specs.Contract.{Cells, holding, plain}
 use Rattle.bus.specs.Extent.{stretch, leftOut}
 use Rattle.storage.specs.declared.memory.Memory.{Memory}
 use Rattle.storage.specs.declared.image.Image.{Image}
-use Rattle.storage.specs.Memory.{MemoryTold, memoryCells}
-use Rattle.storage.specs.Image.{ImageTold}
+use Rattle.storage.specs.Memory.{MemoryDetermined, memoryCells}
+use Rattle.storage.specs.Image.{ImageDetermined}
 
 -- a cell for each byte, which shows the byte
-abbrev Shows : (ℕ → Cell) → Type 0
+abbrev pub Shows : (ℕ → Cell) → Type 0
 Shows cell = (b : ℕ) → byteOf (cell b) ≡ b
 
-abbrev over : (ℕ → Cell) → List ℕ → ℕ → Cell
+abbrev pub over : (ℕ → Cell) → List ℕ → ℕ → Cell
 over cell bytes i = cell (getD bytes i 0)
 
-shown-at : (cell : ℕ → Cell) → Shows cell → (tag base : ℕ) (xs : List ℕ) (i : ℕ) → i < length xs → base + i < space → byteOf (stretch tag base (length xs) (over cell xs) (base + i)) ≡ getD xs i 0
+pub shown-at : (cell : ℕ → Cell) → Shows cell → (tag base : ℕ) (xs : List ℕ) (i : ℕ) → i < length xs → base + i < space → byteOf (stretch tag base (length xs) (over cell xs) (base + i)) ≡ getD xs i 0
 shown-at cell shows tag base xs i h r = let e = shows (getD xs i 0) in grind (arith, tells)
 
 hidden-at : (cell : ℕ → Cell) → Shows cell → (base : ℕ) (xs : List ℕ) (i : ℕ) → space ≤ base + i → byteOf (leftOut base (over cell xs) i) ≡ getD xs i 0
@@ -41,8 +41,8 @@ same-bytes f g sf sg t u b xs ys el shown hidden =
     (λ r. sym (hidden-at f sf b xs i r) ∙ ap (λ (m : Cells). byteOf (m i)) hidden ∙ hidden-at g sg b ys i r)
     (cases-lt (b + i) space))
 
-pub memory-told : (m : Memory) → MemoryTold m
-memory-told m other shown kept =
+pub memory-determined : (m : Memory) → MemoryDetermined m
+memory-determined m other shown kept =
     let et : other .tag ≡ m .tag = cc in
     let eb : other .base ≡ m .base = cc in
     let en : name (other .bytes) ≡ name (m .bytes) = cc in
@@ -51,8 +51,8 @@ memory-told m other shown kept =
     let hidden : leftOut (other .base) (over Open xs) ≡ leftOut (m .base) (over Open (now (m .bytes))) = cc in
     (et, eb, en, same-bytes Open Open (λ _. refl) (λ _. refl) (other .tag) (m .tag) (m .base) xs (now (m .bytes)) el (rw eb at shown) (rw eb at hidden))
 
-pub image-told : (m : Image) → ImageTold m
-image-told m other shown kept =
+pub image-determined : (m : Image) → ImageDetermined m
+image-determined m other shown kept =
     let et : other .tag ≡ m .tag = cc in
     let eb : other .base ≡ m .base = cc in
     let el : length (now (other .bytes)) ≡ length (now (m .bytes)) = cc in

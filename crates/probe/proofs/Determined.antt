@@ -1,4 +1,4 @@
--- A bank is told by its cells and its shape: direction and answering by the settings, a byte by its open cell or else by what lies behind it.
+-- Cells and shape determine a bank: direction and answering come from the settings, a byte from its open cell or else from the hidden bytes.
 use mathlib.Core.Path.{_≡_, refl, ap, sym, _∙_}
 use mathlib.Core.Bool.{Bool, true, false, cond}
 use mathlib.Core.List.{List, _∷_, map}
@@ -12,7 +12,7 @@ use Rattle.probe.specs.declared.bank.Direction.{Direction}
 use Rattle.probe.specs.declared.bank.Direction.the-variants.{Input, Output}
 use Rattle.probe.specs.declared.bank.Register.{Register}
 use Rattle.probe.specs.declared.bank.ProbeBank.{ProbeBank}
-use Rattle.probe.specs.Bank.{unset, registerOf, registerCell, bankCells, bankShape, setting, byteBehind, behindOf, BankTold}
+use Rattle.probe.specs.Bank.{unset, registerOf, registerCell, bankCells, bankShape, setting, hiddenByte, hiddenBytes, BankDetermined}
 
 same-answering : (r s : Register) → setting r ≡ setting s → r .answering ≡ s .answering
 same-answering r s e = grind (arith, tells)
@@ -20,22 +20,22 @@ same-answering r s e = grind (arith, tells)
 same-direction : (r s : Register) → setting r ≡ setting s → r .direction ≡ s .direction
 same-direction r s e = grind (arith, tells)
 
--- the byte of a register: shown where the cell is open, behind it elsewhere
-same-byte : (bank other : ProbeBank) (i : ℕ) → bankCells other (other .base + i) ≡ bankCells bank (bank .base + i) → byteBehind (bankCells other (other .base + i)) (registerOf other i) ≡ byteBehind (bankCells bank (bank .base + i)) (registerOf bank i) → registerOf other i .byte ≡ registerOf bank i .byte
-same-byte bank other i shown behind = grind (arith, tells)
+-- the byte of a register: shown where the cell is open, hidden elsewhere
+same-byte : (bank other : ProbeBank) (i : ℕ) → bankCells other (other .base + i) ≡ bankCells bank (bank .base + i) → hiddenByte (bankCells other (other .base + i)) (registerOf other i) ≡ hiddenByte (bankCells bank (bank .base + i)) (registerOf bank i) → registerOf other i .byte ≡ registerOf bank i .byte
+same-byte bank other i shown hidden = grind (arith, tells)
 
 same-register : (r s : Register) → setting r ≡ setting s → r .byte ≡ s .byte → r ≡ s
 same-register r s e b = λ i. record { direction = same-direction r s e i; answering = same-answering r s e i; byte = b i }
 
-pub bank-told : (bank : ProbeBank) → BankTold bank
-bank-told bank other shown kept =
+pub bank-determined : (bank : ProbeBank) → BankDetermined bank
+bank-determined bank other shown kept =
     let et : other .tag ≡ bank .tag = cc in
     let eb : other .base ≡ bank .base = cc in
     let es : map setting (other .registers) ≡ map setting (bank .registers) = cc in
     let el : length (other .registers) ≡ length (bank .registers) = sym (length-map (other .registers) setting) ∙ ap length es ∙ length-map (bank .registers) setting in
-    let behind : behindOf other ≡ behindOf bank = cc in
+    let hidden : hiddenBytes other ≡ hiddenBytes bank = cc in
     let er : other .registers ≡ bank .registers = ext-getD unset (other .registers) (bank .registers) el (λ i h.
     same-register (registerOf other i) (registerOf bank i)
     (sym (getD-map setting (other .registers) i unset 0 h) ∙ ap (λ xs. getD xs i 0) es ∙ getD-map setting (bank .registers) i unset 0 (omega arith))
-    (same-byte bank other i (ap (λ (m : Cells). m (other .base + i)) shown ∙ ap (λ b. bankCells bank (b + i)) eb) (ap (λ (m : Cells). m i) behind))) in
+    (same-byte bank other i (ap (λ (m : Cells). m (other .base + i)) shown ∙ ap (λ b. bankCells bank (b + i)) eb) (ap (λ (m : Cells). m i) hidden))) in
     λ i. record { base = eb i; tag = et i; registers = er i }
