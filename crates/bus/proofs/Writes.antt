@@ -1,9 +1,9 @@
 -- A write changes one byte at most.
-use mathlib.Core.Path.{_≡_, fun-ext}
+use mathlib.Core.Path.{fun-ext}
 use Prim.Native.Nat.{ℕ}
 use native.Mathlib.Omega.{arith}
 use Rattle.std.proofs.shelf.Ways.{tells}
-use Rattle.bus.specs.Contract.{Cells, put, OneByte}
+use Rattle.bus.specs.Contract.{Cells, OneByte}
 
 pub one-byte : (before : Cells) (a v : ℕ) → OneByte before a v
 one-byte before a v =

@@ -1,6 +1,5 @@
 // A stretch of addresses: a base and a length. Where it reaches beyond the last address, that part of it has no address.
 ghost use mathlib.Core.Path.{_≡_};
-ghost use Prim.Native.Nat.{ℕ};
 ghost use Rattle.bus.specs.Extent.{fits, offsetIn};
 use super::address::ADDRESSES;
 use super::address::Address;

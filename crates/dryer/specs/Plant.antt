@@ -1,6 +1,5 @@
 -- What the host sets in the dryer's bank of probes. Assumes nothing.
 use mathlib.Core.Bool.{true}
-use Prim.Native.Nat.{ℕ}
 use Rattle.probe.specs.declared.bank.ProbeBank.{ProbeBank}
 use Rattle.probe.specs.declared.bank.Direction.the-variants.{Output}
 use Rattle.probe.specs.Bank.{withRegister, directed, answers, holdingByte}

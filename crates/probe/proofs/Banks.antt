@@ -4,8 +4,8 @@ use mathlib.Core.Bool.{cond, _&&_}
 use mathlib.Core.List.{List, _∷_}
 use Prim.Native.Nat.{ℕ, _+_, _-_, _<_, _≤_}
 use native.Mathlib.Omega.{arith}
-use lib.Dec.{ltb, leb, eqb}
-use lib.ListN.{length, getD, set, replicate}
+use lib.Dec.{ltb, eqb}
+use lib.ListN.{length, set}
 use lib.Seq.{getD-set-same, getD-set-other, map-set-same}
 use Rattle.std.proofs.shelf.Lanes.{getD-replicate}
 use Rattle.std.proofs.shelf.Tests.{cases-eq, cases-lt}
@@ -16,7 +16,7 @@ use Rattle.probe.specs.declared.bank.ProbeBank.{ProbeBank}
 use Rattle.bus.specs.Address.{space}
 use Rattle.bus.specs.Cell.{kindOf, written}
 use Rattle.bus.specs.Contract.{Cells, put, holding, plain}
-use Rattle.probe.specs.Bank.{unset, newBank, silentCells, registerOf, registerCell, bankCells, bankShape, holdingByte, withRegister, replaced, setting, hiddenByte}
+use Rattle.probe.specs.Bank.{unset, newBank, silentCells, registerOf, registerCell, bankCells, bankShape, holdingByte, withRegister, replaced, setting}
 
 abbrev pub changed : ProbeBank → ℕ → Register → ProbeBank
 changed bank n r = record { base = bank .base; tag = bank .tag; registers = set (bank .registers) n r }

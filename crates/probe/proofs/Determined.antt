@@ -1,18 +1,15 @@
 -- Cells and shape determine a bank: direction and answering come from the settings, a byte from its open cell or else from the hidden bytes.
-use mathlib.Core.Path.{_≡_, refl, ap, sym, _∙_}
-use mathlib.Core.Bool.{Bool, true, false, cond}
-use mathlib.Core.List.{List, _∷_, map}
-use Prim.Native.Nat.{ℕ, _+_, _-_, _<_, _≤_}
+use mathlib.Core.Path.{_≡_, ap, sym, _∙_}
+use mathlib.Core.List.{map}
+use Prim.Native.Nat.{ℕ, _+_, _-_}
 use native.Mathlib.Omega.{arith}
 use lib.ListN.{length, getD}
 use Rattle.std.proofs.shelf.Lists.{ext-getD, length-map, getD-map}
 use Rattle.std.proofs.shelf.Ways.{tells}
 use Rattle.bus.specs.Contract.{Cells}
-use Rattle.probe.specs.declared.bank.Direction.{Direction}
-use Rattle.probe.specs.declared.bank.Direction.the-variants.{Input, Output}
 use Rattle.probe.specs.declared.bank.Register.{Register}
 use Rattle.probe.specs.declared.bank.ProbeBank.{ProbeBank}
-use Rattle.probe.specs.Bank.{unset, registerOf, registerCell, bankCells, bankShape, setting, hiddenByte, hiddenBytes, BankDetermined}
+use Rattle.probe.specs.Bank.{unset, registerOf, bankCells, setting, hiddenByte, hiddenBytes, BankDetermined}
 
 same-answering : (r s : Register) → setting r ≡ setting s → r .answering ≡ s .answering
 same-answering r s e = grind (arith, tells)

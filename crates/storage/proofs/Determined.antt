@@ -1,6 +1,6 @@
 -- Cells and shape determine a memory and an image: a byte that has an address comes from its cell, any other from the cells left out.
 use mathlib.Core.Path.{_≡_, refl, ap, sym, _∙_}
-use mathlib.Core.List.{List, _∷_}
+use mathlib.Core.List.{List}
 use mathlib.Core.Logic.{⊎-elim}
 use Prim.Native.Nat.{ℕ, _+_, _-_, _<_, _≤_}
 use native.Mathlib.Omega.{arith}
@@ -13,11 +13,11 @@ use Rattle.bus.specs.declared.cell.Cell.{Cell}
 use Rattle.bus.specs.declared.cell.Cell.the-variants.{Open, Fixed}
 use Rattle.bus.specs.Address.{space}
 use Rattle.bus.specs.Cell.{byteOf}
-use Rattle.bus.specs.Contract.{Cells, holding, plain}
+use Rattle.bus.specs.Contract.{Cells}
 use Rattle.bus.specs.Extent.{stretch, leftOut}
 use Rattle.storage.specs.declared.memory.Memory.{Memory}
 use Rattle.storage.specs.declared.image.Image.{Image}
-use Rattle.storage.specs.Memory.{MemoryDetermined, memoryCells}
+use Rattle.storage.specs.Memory.{MemoryDetermined}
 use Rattle.storage.specs.Image.{ImageDetermined}
 
 -- a cell for each byte, which shows the byte

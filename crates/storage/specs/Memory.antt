@@ -5,7 +5,6 @@ use Prim.Native.Nat.{ℕ, _+_}
 use lib.ListN.{length, getD}
 use denote.Ref.{now, name}
 use Rattle.std.specs.Iters.{counting}
-use Rattle.bus.specs.declared.cell.Cell.{Cell}
 use Rattle.bus.specs.declared.cell.Cell.the-variants.{Open}
 use Rattle.bus.specs.Cell.{byteOf}
 use Rattle.bus.specs.Contract.{Cells, Shape, plain, holding}

@@ -15,5 +15,4 @@ returns c =
     let fits : hasRoom log ≡ true = search needs in
     let room : 4096 + length log ≤ space = leb-true _ _ fits in
     let d = simp (c .new-memory .ensures .memory) at (c .store .ensures) in
-    let s = lender-has (c .store .last .bus) _ _ _ _ _ _ _ (d .kept) (search needs) (d .after) room in
-    record { answer = search needs; bytes = s ∙ put-bytes 1 4096 log (c .args .hour) (c .args .byte) room ∙ sym (cond-true _ _ _ fits) }
+    record { answer = search needs; bytes = lender-has (c .store .last .bus) _ _ _ _ _ _ _ (d .kept) (search needs) (d .after) room ∙ put-bytes 1 4096 log (c .args .hour) (c .args .byte) room ∙ sym (cond-true _ _ _ fits) }
