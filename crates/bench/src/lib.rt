@@ -4,6 +4,8 @@ ghost use Rattle.bench.specs.Refused.{refusedBy};
 use bus::refusal::Refusal;
 
 #[cfg(test)]
+mod dryer_examples;
+#[cfg(test)]
 mod probe_examples;
 #[cfg(test)]
 mod refusal_examples;
