@@ -1,6 +1,7 @@
 // What a bus owes. Whoever adds a bus implements `Bus` and proves exactly this of it.
 ghost use mathlib.Core.Path.{_≡_};
 ghost use Prim.Native.Nat.{ℕ};
+ghost use Rattle.std.specs.Vec.{refused};
 ghost use Rattle.bus.specs.Contract.{Cells, Shape, kindAnswer, readAnswer, writeAnswer, put, OneByte};
 use super::cell::Kind;
 use super::refusal::Refusal;
@@ -24,7 +25,8 @@ pub trait Bus {
     fn write(&mut self, address: u32, byte: u8) -> Result<(), Refusal>
         ensures answer { λ r. ⌜ r ≡ writeAnswer (cells (now (self .entry))) address ⌝ }
         ensures after { λ _. ⌜ cells (now (self .exit)) ≡ put (cells (now (self .entry))) address byte ⌝ }
-        ensures kept { λ _. ⌜ shape (now (self .exit)) ≡ shape (now (self .entry)) ⌝ };
+        ensures kept { λ _. ⌜ shape (now (self .exit)) ≡ shape (now (self .entry)) ⌝ }
+        ensures untouched { λ r. ⌜ refused r (λ _. now (self .exit) ≡ now (self .entry)) ⌝ };
 }
 
 // The law of a write, in words that need no look at its definition: `specs/Contract.antt` has them at `OneByte`.
