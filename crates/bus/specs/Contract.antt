@@ -41,7 +41,7 @@ pub record OneByte (before : Cells) (a v : ℕ) : Type 0 where
   pub refused : (r : Refusal) → writeAnswer before a ≡ Err r → put before a v ≡ before
 
 -- What a bus holds and its cells do not show: nothing, or
--- numbers (its bounds and tag, where its bytes are lent from), cells that stand at no address, and the shapes of the buses below it.
+-- numbers (its bounds and tag, where its bytes are lent from), cells that are not shown, and the shapes of the buses below it.
 pub data Shape : Type 0 where
   plain : Shape
   holding : List ℕ → Cells → Shape → Shape → Shape

@@ -28,6 +28,6 @@ offsetIn base length a = cond (within base length a) (Some (a - base)) None
 abbrev pub stretch : ℕ → ℕ → ℕ → (ℕ → Cell) → Cells
 stretch tag base length cell a = cond (within base length a) (cell (a - base)) (Silent tag)
 
--- of those cells the ones that lie beyond the last address
+-- of those cells the ones that lie beyond the last address, a silent one in place of each other
 abbrev pub leftOut : ℕ → (ℕ → Cell) → Cells
 leftOut base cell i = cond (ltb (base + i) space) (Silent 0) (cell i)

@@ -29,7 +29,7 @@ pub trait Bus {
         ensures untouched { λ r. ⌜ refused r (λ _. now (self .exit) ≡ now (self .entry)) ⌝ };
 }
 
-// The law of a write, in words that need no look at its definition: `specs/Contract.antt` has them at `OneByte`.
+// What `put` means, said without its definition: `OneByte` in `specs/Contract.antt`.
 pub fn a_write_changes_one_byte_at_most()
     ensures { λ _. ⌜ ((before : Cells) (a v : ℕ) → OneByte before a v) ⌝ }
 {}

@@ -7,7 +7,7 @@ use super::address::Address;
 pub enum Refusal {
     // 1: an address or a vector place is above $FFFFFF.
     AddressTooHigh,
-    // 2: there are more than eight windows or spans, or they are not in ascending order without overlap.
+    // 2: there are more than eight windows or spans, or they do not lie in ascending order without overlap, each with its first address at most its last.
     WindowsOrSpans,
     // 3: a window's rights are neither 1 (read) nor 3 (read and write).
     Rights,

@@ -16,7 +16,7 @@ use Rattle.probe.specs.declared.bank.ProbeBank.{ProbeBank}
 use Rattle.bus.specs.Address.{space}
 use Rattle.bus.specs.Cell.{kindOf, written}
 use Rattle.bus.specs.Contract.{Cells, put, holding, plain}
-use Rattle.probe.specs.Bank.{unset, newBank, silentCells, registerOf, registerCell, bankCells, bankShape, holdingByte, withRegister, replaced, setting}
+use Rattle.probe.specs.Bank.{unset, newBank, silentCells, registerOf, registerCell, bankCells, bankShape, withByte, withRegister, replaced, modeNumber}
 
 abbrev pub changed : ProbeBank → ℕ → Register → ProbeBank
 changed bank n r = record { base = bank .base; tag = bank .tag; registers = set (bank .registers) n r }
@@ -35,19 +35,19 @@ set-cells bank n change full e = ap bankCells e ∙ fun-ext (λ a. let same = ch
 found : (bank : ProbeBank) (a : ℕ) → kindOf (bankCells bank a) ≡ Open → (a < space) × (bank .base ≤ a) × (a - bank .base < 32) × (kindOf (registerCell (bank .tag) (registerOf bank (a - bank .base))) ≡ Open)
 found bank a e = (grind (arith, tells), grind (arith, tells), grind (arith, tells), grind (arith, tells))
 
-opened : (tag v : ℕ) (r : Register) → kindOf (registerCell tag r) ≡ Open → registerCell tag (holdingByte v r) ≡ written v (registerCell tag r)
+opened : (tag v : ℕ) (r : Register) → kindOf (registerCell tag r) ≡ Open → registerCell tag (withByte v r) ≡ written v (registerCell tag r)
 opened tag v r e = grind (arith, tells)
 
 -- the bank after v was stored at an address
 abbrev pub stored : ProbeBank → ℕ → ℕ → ProbeBank
-stored bank a v = changed bank (a - bank .base) (holdingByte v (registerOf bank (a - bank .base)))
+stored bank a v = changed bank (a - bank .base) (withByte v (registerOf bank (a - bank .base)))
 
 pub stored-cells : (bank : ProbeBank) (a v : ℕ) → length (bank .registers) ≡ 32 → kindOf (bankCells bank a) ≡ Open → bankCells (stored bank a v) ≡ put (bankCells bank) a v
 stored-cells bank a v full e =
     let f = found bank a e in
     let n = a - bank .base in
     fun-ext (λ k.
-    let c = changed-cell bank n (holdingByte v (registerOf bank n)) full (f .2) k in
+    let c = changed-cell bank n (withByte v (registerOf bank n)) full (f .2) k in
     let o = opened (bank .tag) v (registerOf bank n) (f .3) in
     grind (arith, tells))
 
@@ -55,9 +55,9 @@ pub stored-shape : (bank : ProbeBank) (a v : ℕ) → length (bank .registers) �
 stored-shape bank a v full e =
     let f = found bank a e in
     let n = a - bank .base in
-    let r = holdingByte v (registerOf bank n) in
+    let r = withByte v (registerOf bank n) in
     ap₂ (λ (xs : List ℕ) (hidden : Cells). holding (bank .tag ∷ bank .base ∷ xs) hidden plain plain)
-    (map-set-same setting (bank .registers) n r unset refl)
+    (map-set-same modeNumber (bank .registers) n r unset refl)
     (fun-ext (λ k.
     let c = changed-cell bank n r full (f .2) (bank .base + k) in
     let o = opened (bank .tag) v (registerOf bank n) (f .3) in
@@ -65,6 +65,6 @@ stored-shape bank a v full e =
     let other = getD-set-other (bank .registers) n k r unset in
     grind (arith, tells, cases-eq k n)))
 
--- no register of a new bank answers
+-- no register of a new bank withAnswering
 pub new-cells : (tag base : ℕ) → bankCells (newBank tag base) ≡ silentCells tag
 new-cells tag base = fun-ext (λ a. let u = getD-replicate 32 (a - base) unset unset in grind (arith, tells))

@@ -32,7 +32,7 @@ silentCells tag a = Silent tag
 abbrev pub registerOf : ProbeBank → ℕ → Register
 registerOf bank n = getD (bank .registers) n unset
 
--- the cell of a register that answers
+-- the cell of a register that withAnswering
 abbrev pub activeCell : ℕ → Direction → ℕ → Cell
 activeCell tag Input b = Fixed b tag
 activeCell tag Output b = Open b
@@ -47,21 +47,21 @@ bankCells bank = stretch (bank .tag) (bank .base) 32 (λ n. registerCell (bank .
 abbrev pub inBank : {A : Type 0} → ℕ → Result A Refusal → Result A Refusal
 inBank n answer = cond (ltb n 32) answer (Err OutOfRange)
 
--- the three settings of a register, each of which leaves the other two
-abbrev pub directed : Direction → Register → Register
-directed d r = record { direction = d; answering = r .answering; byte = r .byte }
+-- a register with one property set, the other two as they were
+abbrev pub withDirection : Direction → Register → Register
+withDirection d r = record { direction = d; answering = r .answering; byte = r .byte }
 
-abbrev pub answers : Bool → Register → Register
-answers t r = record { direction = r .direction; answering = t; byte = r .byte }
+abbrev pub withAnswering : Bool → Register → Register
+withAnswering t r = record { direction = r .direction; answering = t; byte = r .byte }
 
-abbrev pub holdingByte : ℕ → Register → Register
-holdingByte b r = record { direction = r .direction; answering = r .answering; byte = b }
+abbrev pub withByte : ℕ → Register → Register
+withByte b r = record { direction = r .direction; answering = r .answering; byte = b }
 
--- the bank with one register set change and the others as they were; unchanged where there is no such register
+-- the bank with register n changed and the others as they were; unchanged where there is no register n
 abbrev pub withRegister : ℕ → (Register → Register) → ProbeBank → ProbeBank
 withRegister n change bank = record { base = bank .base; tag = bank .tag; registers = cond (ltb n 32) (set (bank .registers) n (change (registerOf bank n))) (bank .registers) }
 
--- the cells with that of one register replaced, the others as they were
+-- the cells with that of register n changed and the others as they were
 abbrev pub replaced : ℕ → (Register → Register) → ProbeBank → Cells
 replaced n change bank a = cond (ltb n 32 && (ltb a space && eqb a (bank .base + n))) (registerCell (bank .tag) (change (registerOf bank n))) (bankCells bank a)
 
@@ -69,9 +69,9 @@ abbrev pub directionNumber : Direction → ℕ
 directionNumber Input = 0
 directionNumber Output = 1
 
--- direction and answering of a register, as one number
-abbrev pub setting : Register → ℕ
-setting r = directionNumber (r .direction) + cond (r .answering) 2 0
+-- direction and answering as one number
+abbrev pub modeNumber : Register → ℕ
+modeNumber r = directionNumber (r .direction) + cond (r .answering) 2 0
 
 -- a register's byte, left out where its cell is open, since that shows the byte and takes another
 abbrev pub hiddenByte : Cell → Register → Cell
@@ -84,8 +84,8 @@ hiddenBytes bank n = hiddenByte (bankCells bank (bank .base + n)) (registerOf ba
 
 -- tag, base, direction and answering of each register, and the bytes of those that are not open
 abbrev pub bankShape : ProbeBank → Shape
-bankShape bank = holding (bank .tag ∷ bank .base ∷ map setting (bank .registers)) (hiddenBytes bank) plain plain
+bankShape bank = holding (bank .tag ∷ bank .base ∷ map modeNumber (bank .registers)) (hiddenBytes bank) plain plain
 
 -- cells and shape are all of a bank: another with the same is the same
-abbrev pub BankDetermined : ProbeBank → Type 0
-BankDetermined bank = (other : ProbeBank) → bankCells other ≡ bankCells bank → bankShape other ≡ bankShape bank → other ≡ bank
+abbrev pub BankDetermined : Type 0
+BankDetermined = (bank other : ProbeBank) → bankCells other ≡ bankCells bank → bankShape other ≡ bankShape bank → other ≡ bank

@@ -3,6 +3,7 @@ mod cells;
 mod host;
 
 pub use cells::ProbeBankBus;
+pub use host::cells_and_shape_determine_a_bank;
 
 // How many registers a bank has.
 pub const REGISTERS: u32 = 32;

@@ -41,7 +41,7 @@ same-bytes f g sf sg t u b xs ys el shown hidden =
     (λ r. sym (hidden-at f sf b xs i r) ∙ ap (λ (m : Cells). byteOf (m i)) hidden ∙ hidden-at g sg b ys i r)
     (cases-lt (b + i) space))
 
-pub memory-determined : (m : Memory) → MemoryDetermined m
+pub memory-determined : MemoryDetermined
 memory-determined m other shown kept =
     let et : other .tag ≡ m .tag = cc in
     let eb : other .base ≡ m .base = cc in
@@ -51,7 +51,7 @@ memory-determined m other shown kept =
     let hidden : leftOut (other .base) (over Open xs) ≡ leftOut (m .base) (over Open (now (m .bytes))) = cc in
     (et, eb, en, same-bytes Open Open (λ _. refl) (λ _. refl) (other .tag) (m .tag) (m .base) xs (now (m .bytes)) el (rw eb at shown) (rw eb at hidden))
 
-pub image-determined : (m : Image) → ImageDetermined m
+pub image-determined : ImageDetermined
 image-determined m other shown kept =
     let et : other .tag ≡ m .tag = cc in
     let eb : other .base ≡ m .base = cc in

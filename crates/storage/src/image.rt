@@ -28,7 +28,6 @@ impl<'a> Image<'a> {
     pub fn new(base: u32, tag: u8, bytes: &'a [u8]) -> Image<'a>
         ensures image { λ r. ⌜ r ≡ record { base = base; tag = tag; bytes = bytes .entry } ⌝ }
         ensures cells { λ r. ⌜ imageCells r ≡ fixedFrom tag base (now (bytes .entry)) ⌝ }
-        ensures determined { λ r. ⌜ ImageDetermined r ⌝ }
     {
         Image { base, tag, bytes }
     }
@@ -67,3 +66,8 @@ pub impl Bus for Image<'_> as ImageBus {
         self.cell(at).check_write(at)
     }
 }
+
+// An image holds nothing beside its cells and its shape: another with the same has the same numbers and bytes.
+pub fn cells_and_shape_determine_an_image()
+    ensures { λ _. ⌜ ImageDetermined ⌝ }
+{}

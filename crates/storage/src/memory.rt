@@ -31,7 +31,6 @@ impl<'a> Memory<'a> {
     pub fn new(base: u32, tag: u8, bytes: &'a mut [u8]) -> Memory<'a>
         ensures memory { λ r. ⌜ r ≡ record { base = base; tag = tag; bytes = bytes .entry } ⌝ }
         ensures cells { λ r. ⌜ memoryCells r ≡ openFrom tag base (now (bytes .entry)) ⌝ }
-        ensures determined { λ r. ⌜ MemoryDetermined r ⌝ }
     {
         Memory { base, tag, bytes }
     }
@@ -80,3 +79,8 @@ pub impl Bus for Memory<'_> as MemoryBus {
         Ok(())
     }
 }
+
+// A memory holds nothing beside its cells and its shape: another with the same has the same numbers and bytes.
+pub fn cells_and_shape_determine_a_memory()
+    ensures { λ _. ⌜ MemoryDetermined ⌝ }
+{}

@@ -3,7 +3,7 @@ ghost use mathlib.Core.Path.{_≡_};
 ghost use Prim.Native.Nat.{_%_};
 ghost use Rattle.std.specs.Vec.{made};
 ghost use Rattle.std.specs.declared.result.Result.the-variants.{Ok};
-ghost use Rattle.bus.specs.Address.{at, inSpace};
+ghost use Rattle.bus.specs.Address.{space, at, inSpace};
 use super::ADDRESSES;
 use super::Address;
 use crate::refusal::Refusal;
@@ -12,7 +12,7 @@ impl Address {
     // The address with this number; after the last address comes 0 again.
     pub fn wrapping(number: u32) -> Address
         ensures address { λ r. ⌜ r ≡ at number ⌝ }
-        ensures value { λ r. ⌜ r .value ≡ number % 16777216 ⌝ }
+        ensures value { λ r. ⌜ r .value ≡ number % space ⌝ }
     {
         Address {
             value: number % ADDRESSES,

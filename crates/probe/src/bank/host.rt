@@ -2,7 +2,7 @@
 ghost use mathlib.Core.Path.{_≡_};
 ghost use Rattle.std.specs.declared.result.Result.the-variants.{Ok};
 ghost use Rattle.bus.specs.Extent.{fits};
-ghost use Rattle.probe.specs.Bank.{newBank, bankCells, silentCells, BankDetermined, inBank, registerOf, withRegister, directed, answers, holdingByte, replaced};
+ghost use Rattle.probe.specs.Bank.{newBank, bankCells, silentCells, BankDetermined, inBank, registerOf, withRegister, withDirection, withAnswering, withByte, replaced};
 use super::Direction;
 use super::ProbeBank;
 use super::REGISTERS;
@@ -11,18 +11,17 @@ use bus::extent;
 use bus::refusal::Refusal;
 
 impl ProbeBank {
-    // Tests the number of a bank: all its registers lie below 16,777,216.
+    // Tests the base of a bank: all its registers lie below 16,777,216.
     pub fn check(base: u32) -> Result<(), Refusal>
         ensures { λ r. ⌜ r ≡ fits base 32 ⌝ }
     {
         extent::check(base, REGISTERS as usize)
     }
 
-    // A bank of registers that do not answer, whatever the number: registers that lie above $FFFFFF have no cell.
+    // A bank of registers that do not answer, whatever the base: registers that lie above $FFFFFF have no cell.
     pub fn new(base: u32, tag: u8) -> ProbeBank
         ensures bank { λ r. ⌜ r ≡ newBank tag base ⌝ }
         ensures cells { λ r. ⌜ bankCells r ≡ silentCells tag ⌝ }
-        ensures determined { λ r. ⌜ BankDetermined r ⌝ }
     {
         let register = Register {
             direction: Direction::Input,
@@ -46,8 +45,8 @@ impl ProbeBank {
 
     pub fn set_direction(&mut self, number: u32, direction: Direction) -> Result<(), Refusal>
         ensures answer { λ r. ⌜ r ≡ inBank number (Ok tt) ⌝ }
-        ensures bank { λ _. ⌜ now (self .exit) ≡ withRegister number (directed direction) (now (self .entry)) ⌝ }
-        ensures cells { λ _. ⌜ bankCells (now (self .exit)) ≡ replaced number (directed direction) (now (self .entry)) ⌝ }
+        ensures bank { λ _. ⌜ now (self .exit) ≡ withRegister number (withDirection direction) (now (self .entry)) ⌝ }
+        ensures cells { λ _. ⌜ bankCells (now (self .exit)) ≡ replaced number (withDirection direction) (now (self .entry)) ⌝ }
     {
         let place = place(number)?;
         let register = &mut self.registers[place];
@@ -57,8 +56,8 @@ impl ProbeBank {
 
     pub fn set_answering(&mut self, number: u32, answering: bool) -> Result<(), Refusal>
         ensures answer { λ r. ⌜ r ≡ inBank number (Ok tt) ⌝ }
-        ensures bank { λ _. ⌜ now (self .exit) ≡ withRegister number (answers answering) (now (self .entry)) ⌝ }
-        ensures cells { λ _. ⌜ bankCells (now (self .exit)) ≡ replaced number (answers answering) (now (self .entry)) ⌝ }
+        ensures bank { λ _. ⌜ now (self .exit) ≡ withRegister number (withAnswering answering) (now (self .entry)) ⌝ }
+        ensures cells { λ _. ⌜ bankCells (now (self .exit)) ≡ replaced number (withAnswering answering) (now (self .entry)) ⌝ }
     {
         let place = place(number)?;
         let register = &mut self.registers[place];
@@ -68,8 +67,8 @@ impl ProbeBank {
 
     pub fn set_byte(&mut self, number: u32, byte: u8) -> Result<(), Refusal>
         ensures answer { λ r. ⌜ r ≡ inBank number (Ok tt) ⌝ }
-        ensures bank { λ _. ⌜ now (self .exit) ≡ withRegister number (holdingByte byte) (now (self .entry)) ⌝ }
-        ensures cells { λ _. ⌜ bankCells (now (self .exit)) ≡ replaced number (holdingByte byte) (now (self .entry)) ⌝ }
+        ensures bank { λ _. ⌜ now (self .exit) ≡ withRegister number (withByte byte) (now (self .entry)) ⌝ }
+        ensures cells { λ _. ⌜ bankCells (now (self .exit)) ≡ replaced number (withByte byte) (now (self .entry)) ⌝ }
     {
         let place = place(number)?;
         let register = &mut self.registers[place];
@@ -77,6 +76,11 @@ impl ProbeBank {
         Ok(())
     }
 }
+
+// A bank holds nothing beside its cells and its shape: another with the same is the same.
+pub fn cells_and_shape_determine_a_bank()
+    ensures { λ _. ⌜ BankDetermined ⌝ }
+{}
 
 // Where in the table a register stands.
 fn place(number: u32) -> Result<usize, Refusal>
