@@ -1,5 +1,6 @@
--- The plant, its control, the log of the readings, and the count of accesses.
+-- In reading order: the plant, its control, the log of the readings, the count of calls, and one hour of them all.
 pub mod Plant
 pub mod Control
 pub mod Log
 pub mod Tally
+pub mod Work

@@ -1,21 +1,21 @@
 // The control of one dryer tower: two probes are read, and the burner's valve is set by them.
 ghost use mathlib.Core.Path.{_≡_};
 ghost use Rattle.bus.specs.Contract.{put};
-ghost use Rattle.dryer.specs.Control.{openingFor, commanded, controlled, ClosesOnSilence};
+ghost use Rattle.dryer.specs.Control.{openingFor, valveAt, commanded, controlled, ClosesOnSilence};
 use bus::contract::Bus;
 use bus::refusal::Refusal;
 
-// Where the probe bank's registers lie on the bus.
+// Where the probe bank lies on the bus, and what its first registers are.
 pub const PROBES: u32 = 0x200;
 
-pub const MOISTURE: u32 = 0x200;
+pub const MOISTURE: u32 = PROBES;
 
-pub const TEMPERATURE: u32 = 0x201;
+pub const TEMPERATURE: u32 = PROBES + 1;
 
-pub const VALVE: u32 = 0x202;
+pub const VALVE: u32 = PROBES + 2;
 
 // Above this temperature the valve is closed.
-pub const HOTTEST: u8 = 120;
+pub const MAX_TEMPERATURE: u8 = 120;
 
 // What one round of the control read and set.
 #[derive(Clone, Copy)]
@@ -31,11 +31,11 @@ pub fn opening(moisture: Result<u8, Refusal>, temperature: Result<u8, Refusal>) 
     ensures { λ r. ⌜ r ≡ openingFor moisture temperature ⌝ }
 {
     match (moisture, temperature) {
-        (Ok(wet), Ok(hot)) => {
-            if hot > HOTTEST {
+        (Ok(moisture), Ok(temperature)) => {
+            if temperature > MAX_TEMPERATURE {
                 0
-            } else if wet < 20 {
-                wet * 5
+            } else if moisture < 20 {
+                moisture * 5
             } else {
                 100
             }
@@ -44,9 +44,10 @@ pub fn opening(moisture: Result<u8, Refusal>, temperature: Result<u8, Refusal>) 
     }
 }
 
+// One round: reads both probes and sets the valve.
 pub fn control<B: Bus>(probes: &mut B) -> Round
     ensures round { λ r. ⌜ r ≡ controlled (B·Bus .cells (now (probes .entry))) ⌝ }
-    ensures after { λ _. ⌜ B·Bus .cells (now (probes .exit)) ≡ put (B·Bus .cells (now (probes .entry))) 514 (commanded (B·Bus .cells (now (probes .entry)))) ⌝ }
+    ensures after { λ _. ⌜ B·Bus .cells (now (probes .exit)) ≡ put (B·Bus .cells (now (probes .entry))) valveAt (commanded (B·Bus .cells (now (probes .entry)))) ⌝ }
     ensures kept { λ _. ⌜ B·Bus .shape (now (probes .exit)) ≡ B·Bus .shape (now (probes .entry)) ⌝ }
     ensures safe { λ _. ⌜ ClosesOnSilence (B·Bus .cells (now (probes .entry))) (B·Bus .cells (now (probes .exit))) ⌝ }
 {

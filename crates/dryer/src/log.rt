@@ -2,7 +2,7 @@
 ghost use mathlib.Core.Path.{_≡_};
 ghost use Prim.Native.Nat.{_+_};
 ghost use Rattle.bus.specs.Contract.{writeAnswer, put};
-ghost use Rattle.dryer.specs.Log.{noteAnswer, noted};
+ghost use Rattle.dryer.specs.Log.{logAt, noteAnswer, noted};
 use bus::contract::Bus;
 use bus::refusal::Refusal;
 use storage::memory::Memory;
@@ -15,8 +15,8 @@ pub const LOG_TAG: u8 = 1;
 
 // Puts the byte of an hour into the log on any bus.
 fn store<B: Bus>(bus: &mut B, hour: u8, byte: u8) -> Result<(), Refusal>
-    ensures answer { λ r. ⌜ r ≡ writeAnswer (B·Bus .cells (now (bus .entry))) (4096 + hour) ⌝ }
-    ensures after { λ _. ⌜ B·Bus .cells (now (bus .exit)) ≡ put (B·Bus .cells (now (bus .entry))) (4096 + hour) byte ⌝ }
+    ensures answer { λ r. ⌜ r ≡ writeAnswer (B·Bus .cells (now (bus .entry))) (logAt + hour) ⌝ }
+    ensures after { λ _. ⌜ B·Bus .cells (now (bus .exit)) ≡ put (B·Bus .cells (now (bus .entry))) (logAt + hour) byte ⌝ }
     ensures kept { λ _. ⌜ B·Bus .shape (now (bus .exit)) ≡ B·Bus .shape (now (bus .entry)) ⌝ }
 {
     bus.write(LOG + hour as u32, byte)

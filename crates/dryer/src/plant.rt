@@ -1,17 +1,16 @@
-// The plant as its host sets it: the probes of the dryer and the burner's valve in a bank.
+// The plant as its host sets it: the probes and the burner's valve as registers of a bank.
 ghost use mathlib.Core.Path.{_≡_};
 ghost use Rattle.std.specs.declared.result.Result.the-variants.{Ok};
-ghost use Rattle.dryer.specs.Plant.{readied, observed};
+ghost use Rattle.dryer.specs.Plant.{inService, withReadings};
 use bus::refusal::Refusal;
 use probe::bank::Direction;
 use probe::bank::ProbeBank;
 
-// The numbers of the registers.
-const MOISTURE: u32 = 0;
+const MOISTURE_REGISTER: u32 = 0;
 
-const TEMPERATURE: u32 = 1;
+const TEMPERATURE_REGISTER: u32 = 1;
 
-const VALVE: u32 = 2;
+const VALVE_REGISTER: u32 = 2;
 
 // What the probes measure in an hour, and whether the one for moisture answers.
 #[derive(Clone, Copy)]
@@ -22,22 +21,22 @@ pub struct Hour {
 }
 
 // Both probes answer, and the valve answers as an output.
-pub fn ready(probes: &mut ProbeBank) -> Result<(), Refusal>
+pub fn set_up(probes: &mut ProbeBank) -> Result<(), Refusal>
     ensures answer { λ r. ⌜ r ≡ Ok tt ⌝ }
-    ensures bank { λ _. ⌜ now (probes .exit) ≡ readied (now (probes .entry)) ⌝ }
+    ensures bank { λ _. ⌜ now (probes .exit) ≡ inService (now (probes .entry)) ⌝ }
 {
-    probes.set_answering(MOISTURE, true)?;
-    probes.set_answering(TEMPERATURE, true)?;
-    probes.set_direction(VALVE, Direction::Output)?;
-    probes.set_answering(VALVE, true)
+    probes.set_answering(MOISTURE_REGISTER, true)?;
+    probes.set_answering(TEMPERATURE_REGISTER, true)?;
+    probes.set_direction(VALVE_REGISTER, Direction::Output)?;
+    probes.set_answering(VALVE_REGISTER, true)
 }
 
 // The readings of one hour.
-pub fn observe(probes: &mut ProbeBank, hour: Hour) -> Result<(), Refusal>
+pub fn set_readings(probes: &mut ProbeBank, hour: Hour) -> Result<(), Refusal>
     ensures answer { λ r. ⌜ r ≡ Ok tt ⌝ }
-    ensures bank { λ _. ⌜ now (probes .exit) ≡ observed hour (now (probes .entry)) ⌝ }
+    ensures bank { λ _. ⌜ now (probes .exit) ≡ withReadings hour (now (probes .entry)) ⌝ }
 {
-    probes.set_byte(MOISTURE, hour.moisture)?;
-    probes.set_answering(MOISTURE, hour.moisture_answers)?;
-    probes.set_byte(TEMPERATURE, hour.temperature)
+    probes.set_byte(MOISTURE_REGISTER, hour.moisture)?;
+    probes.set_answering(MOISTURE_REGISTER, hour.moisture_answers)?;
+    probes.set_byte(TEMPERATURE_REGISTER, hour.temperature)
 }

@@ -1,0 +1,37 @@
+-- One hour of the tower, by the cells of the bank once the readings are set. Assumes nothing.
+use mathlib.Core.List.{List}
+use Prim.Native.Nat.{ℕ}
+use Rattle.std.specs.declared.option.Option.{Option}
+use Rattle.std.specs.declared.option.Option.the-variants.{None, Some}
+use Rattle.std.specs.declared.result.Result.{Result}
+use Rattle.std.specs.declared.result.Result.the-variants.{Ok, Err}
+use Rattle.bus.specs.declared.refusal.Refusal.{Refusal}
+use Rattle.bus.specs.Contract.{Cells, readAnswer}
+use Rattle.dryer.specs.declared.tally.Tally.{Tally}
+use Rattle.dryer.specs.declared.work.Worked.{Worked}
+use Rattle.dryer.specs.Control.{moistureAt, controlled}
+use Rattle.dryer.specs.Log.{noteAnswer, noted}
+use Rattle.dryer.specs.Tally.{withRead, withWrite, withSet}
+
+-- the log has an answer only where the moisture was read
+abbrev pub kept : Result ℕ Refusal → List ℕ → ℕ → Option (Result (Unit {0}) Refusal)
+kept (Ok moisture) log number = Some (noteAnswer log number)
+kept (Err e) log number = None
+
+abbrev pub worked : ℕ → Cells → List ℕ → Worked
+worked number m log = record { readings = Ok tt; round = controlled m; noted = kept (readAnswer m moistureAt) log number }
+
+abbrev pub logWith : Result ℕ Refusal → List ℕ → ℕ → List ℕ
+logWith (Ok moisture) log number = noted log number moisture
+logWith (Err e) log number = log
+
+abbrev pub logAfter : ℕ → Cells → List ℕ → List ℕ
+logAfter number m log = logWith (readAnswer m moistureAt) log number
+
+abbrev pub withNote : Option (Result (Unit {0}) Refusal) → Tally → Tally
+withNote None t = t
+withNote (Some answer) t = withWrite answer t
+
+-- every call of the hour counted
+abbrev pub tallyAfter : Worked → Tally → Tally
+tallyAfter w t = withNote (w .noted) (withWrite (w .round .valve) (withRead (w .round .temperature) (withRead (w .round .moisture) (withSet (w .readings) t))))
