@@ -6,6 +6,14 @@ use bus::refusal::Refusal;
 use std::test::*;
 
 #[test]
+fn an_address_is_refused_or_wraps_above_the_last() -> Result<(), Fail> {
+    check_eq(refused(Address::new(0xFF_FFFF)), (0, 0, 0))?;
+    check_eq(refused(Address::new(0x100_0000)), (1, 0, 0))?;
+    check_eq(Address::wrapping(0xFF_FFFF).value(), 0xFF_FFFF)?;
+    check_eq(Address::wrapping(0x100_0002).value(), 2)
+}
+
+#[test]
 fn grounds_before_any_access_have_a_number_alone() -> Result<(), Fail> {
     let grounds = [
         Refusal::AddressTooHigh,

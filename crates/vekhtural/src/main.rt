@@ -1,9 +1,9 @@
 // One shift of a dryer tower, played on a probe bank and a memory: what was read, written and refused.
 mod report;
-mod story;
+mod shift;
 
 use std::io;
 
 fn main(rt: LibcRuntime) -> io::Result<()> {
-    story::play(&rt)
+    shift::play(&rt)
 }

@@ -1,8 +1,11 @@
 // The lines that the program prints.
 use bus::refusal::Fault;
 use bus::refusal::Refusal;
+use dryer::control;
+use dryer::log;
 use dryer::plant::Hour;
 use dryer::tally::Tally;
+use dryer::work::Worked;
 use std::fmt;
 use std::io;
 
@@ -47,43 +50,64 @@ fn fault_ground(fault: Fault) -> &'static str {
     }
 }
 
-// The hour that begins, with what its probes measure.
-pub(crate) fn hour(rt: &LibcRuntime, number: u8, hour: Hour) -> io::Result<()> {
+// One hour: what the host set, what the control read and set, what the log keeps.
+pub(crate) fn hour(rt: &LibcRuntime, number: u8, hour: Hour, worked: Worked) -> io::Result<()> {
+    println!(rt, "hour {number}")?;
+    readings(rt, hour, worked.readings)?;
+    let round = worked.round;
+    read(rt, "moisture", control::MOISTURE, round.moisture)?;
+    read(rt, "temperature", control::TEMPERATURE, round.temperature)?;
+    write(rt, "valve", control::VALVE, round.opening, round.valve)?;
+    match worked.noted {
+        Some(answer) => write(rt, "log", log::LOG + number as u32, hour.moisture, answer),
+        None => Ok(()),
+    }
+}
+
+// The readings that the host set.
+fn readings(rt: &LibcRuntime, hour: Hour, answer: Result<(), Refusal>) -> io::Result<()> {
     let moisture = hour.moisture;
     let temperature = hour.temperature;
-    let silent = if hour.moisture_answers {
+    let silence = if hour.moisture_answers {
         ""
     } else {
         "; the moisture probe does not answer"
     };
-    println!(
-        rt,
-        "hour {number}: the plant has moisture {moisture}, temperature {temperature}{silent}"
-    )
+    match answer {
+        Ok(()) => println!(
+            rt,
+            "  set   moisture {moisture}, temperature {temperature}{silence}"
+        ),
+        Err(refusal) => refused(rt, "the readings", refusal),
+    }
 }
 
-// A setting by the host, where it was refused.
+// What a setting by the host answered.
 pub(crate) fn set(rt: &LibcRuntime, what: &str, answer: Result<(), Refusal>) -> io::Result<()> {
     match answer {
-        Ok(()) => Ok(()),
-        Err(refusal) => {
-            let why = InWords(refusal);
-            println!(rt, "  set   {what:<20} {why}")
-        }
+        Ok(()) => println!(rt, "  set   {what}"),
+        Err(refusal) => refused(rt, what, refusal),
     }
+}
+
+// A call that was refused before any access.
+pub(crate) fn refused(rt: &LibcRuntime, what: &str, refusal: Refusal) -> io::Result<()> {
+    let why = InWords(refusal);
+    println!(rt, "  set   {what}: {why}")
 }
 
 // The closing line.
 pub(crate) fn close(rt: &LibcRuntime, tally: Tally) -> io::Result<()> {
-    let accesses = tally.accesses();
+    let calls = tally.calls();
     let Tally {
         read,
         written,
+        set,
         refused,
     } = tally;
     println!(
         rt,
-        "{accesses} accesses: {read} read, {written} written, {refused} refused"
+        "{calls} calls: {read} read, {written} written, {set} set, {refused} refused"
     )
 }
 
