@@ -21,7 +21,7 @@ pub trait Bus {
     fn read(&self, address: u32) -> Result<u8, Refusal>
         ensures { λ r. ⌜ r ≡ readAnswer (cells (now (self .entry))) address ⌝ };
 
-    // Puts the byte into an open cell.
+    // Puts the byte into an open cell. A refusal leaves the whole bus as it was, and not only what the cells and the shape tell of it.
     fn write(&mut self, address: u32, byte: u8) -> Result<(), Refusal>
         ensures answer { λ r. ⌜ r ≡ writeAnswer (cells (now (self .entry))) address ⌝ }
         ensures after { λ _. ⌜ cells (now (self .exit)) ≡ put (cells (now (self .entry))) address byte ⌝ }

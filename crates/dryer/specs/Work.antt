@@ -7,11 +7,19 @@ use Rattle.std.specs.declared.result.Result.{Result}
 use Rattle.std.specs.declared.result.Result.the-variants.{Ok, Err}
 use Rattle.bus.specs.declared.refusal.Refusal.{Refusal}
 use Rattle.bus.specs.Contract.{Cells, readAnswer}
+use Rattle.probe.specs.declared.bank.ProbeBank.{ProbeBank}
+use Rattle.probe.specs.Bank.{bankCells}
+use Rattle.dryer.specs.declared.plant.Hour.{Hour}
 use Rattle.dryer.specs.declared.tally.Tally.{Tally}
 use Rattle.dryer.specs.declared.work.Worked.{Worked}
 use Rattle.dryer.specs.Control.{moistureAt, controlled}
 use Rattle.dryer.specs.Log.{noteAnswer, noted}
+use Rattle.dryer.specs.Plant.{withReadings}
 use Rattle.dryer.specs.Tally.{withRead, withWrite, withSet}
+
+-- the cells that the control finds, once the host has set the readings
+abbrev pub seen : Hour → ProbeBank → Cells
+seen hour bank = bankCells (withReadings hour bank)
 
 -- the log has an answer only where the moisture was read
 abbrev pub kept : Result ℕ Refusal → List ℕ → ℕ → Option (Result (Unit {0}) Refusal)

@@ -8,9 +8,10 @@ use bus::refusal::Refusal;
 use storage::memory::Memory;
 use storage::memory::MemoryBus;
 
-// Where the log lies on the bus, and its tag.
+// Where the log lies on the bus.
 pub const LOG: u32 = 0x1000;
 
+// The tag of the cells around it.
 pub const LOG_TAG: u8 = 1;
 
 // Puts the byte of an hour into the log on any bus.

@@ -15,8 +15,6 @@ use Rattle.bus.specs.Address.{space}
 use Rattle.bus.specs.Cell.{byteOf}
 use Rattle.bus.specs.Contract.{Cells}
 use Rattle.bus.specs.Extent.{stretch, leftOut}
-use Rattle.storage.specs.declared.memory.Memory.{Memory}
-use Rattle.storage.specs.declared.image.Image.{Image}
 use Rattle.storage.specs.Memory.{MemoryDetermined}
 use Rattle.storage.specs.Image.{ImageDetermined}
 

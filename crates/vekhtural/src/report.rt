@@ -58,9 +58,15 @@ pub(crate) fn hour(rt: &LibcRuntime, number: u8, hour: Hour, worked: Worked) -> 
     read(rt, "moisture", control::MOISTURE, round.moisture)?;
     read(rt, "temperature", control::TEMPERATURE, round.temperature)?;
     write(rt, "valve", control::VALVE, round.opening, round.valve)?;
-    match worked.noted {
-        Some(answer) => write(rt, "log", log::LOG + number as u32, hour.moisture, answer),
-        None => Ok(()),
+    match (worked.noted, round.moisture) {
+        (Some(answer), Ok(moisture)) => write(
+            rt,
+            "log",
+            log::LOG + number as u32,
+            moisture,
+            answer,
+        ),
+        _ => Ok(()),
     }
 }
 
