@@ -2,7 +2,7 @@
 ghost use mathlib.Core.Path.{_≡_};
 ghost use Prim.Native.Nat.{_+_};
 ghost use Rattle.bus.specs.Contract.{writeAnswer, put};
-ghost use Rattle.dryer.specs.Log.{logAt, noteAnswer, noted};
+ghost use Rattle.dryer.specs.Log.{logAt, noteAnswer, logged};
 use bus::contract::Bus;
 use bus::refusal::Refusal;
 use storage::memory::Memory;
@@ -26,7 +26,7 @@ fn store<B: Bus>(bus: &mut B, hour: u8, byte: u8) -> Result<(), Refusal>
 // Puts the byte of an hour into the lent log, through a memory over it.
 pub fn note(log: &mut [u8], hour: u8, byte: u8) -> Result<(), Refusal>
     ensures answer { λ r. ⌜ r ≡ noteAnswer (now (log .entry)) hour ⌝ }
-    ensures bytes { λ _. ⌜ now (log .exit) ≡ noted (now (log .entry)) hour byte ⌝ }
+    ensures bytes { λ _. ⌜ now (log .exit) ≡ logged (now (log .entry)) hour byte ⌝ }
 {
     Memory::check(LOG, log.len())?;
     let mut memory = Memory::new(LOG, LOG_TAG, log);

@@ -4,7 +4,7 @@ ghost use Rattle.bus.specs.Contract.{put};
 ghost use Rattle.probe.specs.Bank.{bankCells, bankShape};
 ghost use Rattle.dryer.specs.Control.{valveAt, commanded};
 ghost use Rattle.dryer.specs.Plant.{withReadings};
-ghost use Rattle.dryer.specs.Work.{seen, worked, logAfter, tallyAfter};
+ghost use Rattle.dryer.specs.Work.{seen, worked, logAfter, tallyAfter, HoldsNoReading};
 use super::control;
 use super::control::Round;
 use super::log;
@@ -34,6 +34,7 @@ pub fn work_hour(
     ensures cells { λ _. ⌜ bankCells (now (probes .exit)) ≡ put (seen hour (now (probes .entry))) valveAt (commanded (seen hour (now (probes .entry)))) ⌝ }
     ensures shape { λ _. ⌜ bankShape (now (probes .exit)) ≡ bankShape (withReadings hour (now (probes .entry))) ⌝ }
     ensures log { λ _. ⌜ now (log .exit) ≡ logAfter number (seen hour (now (probes .entry))) (now (log .entry)) ⌝ }
+    ensures safe { λ _. ⌜ HoldsNoReading (seen hour (now (probes .entry))) (bankCells (now (probes .exit))) (now (log .entry)) (now (log .exit)) ⌝ }
     ensures tally { λ r. ⌜ now (tally .exit) ≡ tallyAfter r (now (tally .entry)) ⌝ }
 {
     let readings = plant::set_readings(probes, hour);

@@ -16,7 +16,7 @@ use Rattle.probe.specs.declared.bank.ProbeBank.{ProbeBank}
 use Rattle.bus.specs.Address.{space}
 use Rattle.bus.specs.Cell.{kindOf, written}
 use Rattle.bus.specs.Contract.{Cells, put, holding, plain}
-use Rattle.probe.specs.Bank.{unset, newBank, silentCells, registerOf, registerCell, bankCells, bankShape, withByte, withRegister, replaced, modeNumber}
+use Rattle.probe.specs.Bank.{unset, newBank, silentCells, registerOf, registerCell, bankCells, bankShape, withByte, withRegister, replaced, OneRegister, modeNumber}
 
 abbrev pub changed : ProbeBank → ℕ → Register → ProbeBank
 changed bank n r = record { base = bank .base; tag = bank .tag; registers = set (bank .registers) n r }
@@ -30,6 +30,15 @@ changed-cell bank n r full h a =
 -- the cells of a bank of which one register was set
 pub set-cells : (bank : ProbeBank) (n : ℕ) (change : Register → Register) → length (bank .registers) ≡ 32 → {x : ProbeBank} → x ≡ withRegister n change bank → bankCells x ≡ replaced n change bank
 set-cells bank n change full e = ap bankCells e ∙ fun-ext (λ a. let same = changed-cell bank n (change (registerOf bank n)) full in grind (arith, tells, cases-lt n 32))
+
+pub one-register : (bank : ProbeBank) (n : ℕ) (change : Register → Register) → OneRegister bank n change
+one-register bank n change =
+    let r = change (registerOf bank n) in
+    record {
+      others = λ k other. let e = getD-set-other (bank .registers) n k r unset other in grind (arith, tells);
+      itself = λ full h. let e = getD-set-same (bank .registers) n r unset (omega arith) in grind (arith, tells);
+      refused = λ h. grind (arith, tells);
+    }
 
 -- an open cell is that of a register that answers and is an output
 found : (bank : ProbeBank) (a : ℕ) → kindOf (bankCells bank a) ≡ Open → (a < space) × (bank .base ≤ a) × (a - bank .base < 32) × (kindOf (registerCell (bank .tag) (registerOf bank (a - bank .base))) ≡ Open)
@@ -65,6 +74,6 @@ stored-shape bank a v full e =
     let other = getD-set-other (bank .registers) n k r unset in
     grind (arith, tells, cases-eq k n)))
 
--- no register of a new bank withAnswering
+-- no register of a new bank answers
 pub new-cells : (tag base : ℕ) → bankCells (newBank tag base) ≡ silentCells tag
 new-cells tag base = fun-ext (λ a. let u = getD-replicate 32 (a - base) unset unset in grind (arith, tells))

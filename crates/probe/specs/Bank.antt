@@ -2,9 +2,9 @@
 use mathlib.Core.Path.{_≡_}
 use mathlib.Core.Bool.{Bool, false, cond, _&&_}
 use mathlib.Core.List.{_∷_, map}
-use Prim.Native.Nat.{ℕ, _+_}
+use Prim.Native.Nat.{ℕ, _+_, _<_, _≤_}
 use lib.Dec.{ltb, eqb}
-use lib.ListN.{getD, set, replicate}
+use lib.ListN.{length, getD, set, replicate}
 use Rattle.std.specs.declared.result.Result.{Result}
 use Rattle.std.specs.declared.result.Result.the-variants.{Err}
 use Rattle.bus.specs.declared.cell.Cell.{Cell}
@@ -32,7 +32,7 @@ silentCells tag a = Silent tag
 abbrev pub registerOf : ProbeBank → ℕ → Register
 registerOf bank n = getD (bank .registers) n unset
 
--- the cell of a register that withAnswering
+-- the cell of a register that answers
 abbrev pub activeCell : ℕ → Direction → ℕ → Cell
 activeCell tag Input b = Fixed b tag
 activeCell tag Output b = Open b
@@ -64,6 +64,13 @@ withRegister n change bank = record { base = bank .base; tag = bank .tag; regist
 -- the cells with that of register n changed and the others as they were
 abbrev pub replaced : ℕ → (Register → Register) → ProbeBank → Cells
 replaced n change bank a = cond (ltb n 32 && (ltb a space && eqb a (bank .base + n))) (registerCell (bank .tag) (change (registerOf bank n))) (bankCells bank a)
+
+-- What a setting does, whatever the bank, the number and the change: every other register is as it was, and the one of that number is changed;
+-- a number above 31 leaves the bank as it was.
+pub record OneRegister (bank : ProbeBank) (n : ℕ) (change : Register → Register) : Type 0 where
+  pub others : (k : ℕ) → (k ≡ n → ⊥) → registerOf (withRegister n change bank) k ≡ registerOf bank k
+  pub itself : length (bank .registers) ≡ 32 → n < 32 → registerOf (withRegister n change bank) n ≡ change (registerOf bank n)
+  pub refused : 32 ≤ n → withRegister n change bank ≡ bank
 
 abbrev pub directionNumber : Direction → ℕ
 directionNumber Input = 0

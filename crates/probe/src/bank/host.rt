@@ -1,8 +1,9 @@
 // What the host does with a probe bank: make it, and set its registers one at a time.
 ghost use mathlib.Core.Path.{_≡_};
+ghost use Prim.Native.Nat.{ℕ};
 ghost use Rattle.std.specs.declared.result.Result.the-variants.{Ok};
 ghost use Rattle.bus.specs.Extent.{fits};
-ghost use Rattle.probe.specs.Bank.{newBank, bankCells, silentCells, BankDetermined, inBank, registerOf, withRegister, withDirection, withAnswering, withByte, replaced};
+ghost use Rattle.probe.specs.Bank.{newBank, bankCells, silentCells, BankDetermined, OneRegister, inBank, registerOf, withRegister, withDirection, withAnswering, withByte, replaced};
 use super::Direction;
 use super::ProbeBank;
 use super::REGISTERS;
@@ -76,6 +77,11 @@ impl ProbeBank {
         Ok(())
     }
 }
+
+// What `withRegister` means, said without its definition: `OneRegister` in `specs/Bank.antt`.
+pub fn a_setting_changes_one_register_at_most()
+    ensures { λ _. ⌜ ((bank : ProbeBank) (n : ℕ) (change : Register → Register) → OneRegister bank n change) ⌝ }
+{}
 
 // A bank holds nothing beside its cells and its shape: another with the same is the same.
 pub fn cells_and_shape_determine_a_bank()
