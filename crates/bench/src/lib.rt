@@ -1,4 +1,6 @@
 // Examples of what the crates promise, run as tests: `rt test bench`.
+#![tactic(auto)]
+
 ghost use Rattle.std.specs.Prelude.{◌≡◌};
 ghost use Rattle.bench.specs.Refused.{refused_by};
 

@@ -1,4 +1,6 @@
 // Six hours of two dryer towers on one board: what was set, read, written and refused.
+#![tactic(auto)]
+
 mod play;
 mod report;
 

@@ -1,4 +1,6 @@
 // One shift of a dryer tower, played on a probe bank and a memory: what was read, written and refused.
+#![tactic(auto)]
+
 mod report;
 mod shift;
 
