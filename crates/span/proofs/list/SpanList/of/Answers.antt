@@ -8,4 +8,4 @@ pub returns : goal.returns
 returns c =
     let spans = c.args.spans.now in
     let list : List Span → SpanList = λ table. record { table = table; count = length spans } in
-    ap list (copied spans c.copy-from-slice.new.self c.copy-from-slice.ensures.after)
+    ap list (copied spans c.copy_from_slice.new.self c.copy_from_slice.ensures.after)

@@ -4,8 +4,8 @@ use Rattle.span.specs.Span.{row_answer}
 use Rattle.span.proofs.Turns.{row_turn}
 use Rattle.span.proofs.spans.calls.check_all.Goals as goal
 
-pub returns-in-err-check : goal.returns-in-err-check
-returns-in-err-check c = let t = row_turn c.loop-span.from c.loop-span.span-index c.args.spans.now c.loop-span-test.true in search rules
+pub returns-in_err-check : goal.returns-in_err-check
+returns-in_err-check c = let t = row_turn c.loop-span.from c.loop-span.span-index c.args.spans.now c.loop-span-test.true in search rules
 
 pub loop-span-preserved : goal.loop-span-preserved
 loop-span-preserved c = let t = row_turn c.loop-span.from c.loop-span.span-index c.args.spans.now c.loop-span-test.true in search rules
