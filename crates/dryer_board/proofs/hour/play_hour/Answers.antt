@@ -15,17 +15,17 @@ returns c =
     let number = c.args.number in
     let hour = c.args.hour in
     let board = c.args.board.now in
-    let after = board_cells c.work-both-towers.new.bus in
-    let set = c.set-hour-set.ensures.board in
-    let cells : board_cells c.set-hour-set.new.board ≡ found hour board = ap board_cells set in
-    let towers : c.work-both-towers.result ≡ both_answers number (found hour board) = c.work-both-towers.ensures.answer ∙ ap (both_answers number) cells in
-    let alone : EachAlone number (found hour board) after = subst (λ (m : Cells). EachAlone number m after) cells c.work-both-towers.ensures.alone in
+    let after = board_cells c.work_both-towers.new.bus in
+    let set = c.set_hour-set.ensures.board in
+    let cells : board_cells c.set_hour-set.new.board ≡ found hour board = ap board_cells set in
+    let towers : c.work_both-towers.result ≡ both_answers number (found hour board) = c.work_both-towers.ensures.answer ∙ ap (both_answers number) cells in
+    let alone : EachAlone number (found hour board) after = subst (λ (m : Cells). EachAlone number m after) cells c.work_both-towers.ensures.alone in
     let done : Result (Unit {0}) Refusal → BothAnswers → BoardAnswers = λ s t. record { set = s; towers = t } in
     record {
-      answer = ap₂ done c.set-hour-set.ensures.answer towers;
-      cells = c.work-both-towers.ensures.after ∙ ap (after_both number) cells;
-      shape = c.work-both-towers.ensures.kept ∙ ap board_shape set;
+      answer = ap₂ done c.set_hour-set.ensures.answer towers;
+      cells = c.work_both-towers.ensures.after ∙ ap (after_both number) cells;
+      shape = c.work_both-towers.ensures.kept ∙ ap board_shape set;
       tally = search rules;
-      one = silence One number hour board c.work-both-towers.result.one after (ap (λ (b : BothAnswers). b.one) towers) alone;
-      two = silence Two number hour board c.work-both-towers.result.two after (ap (λ (b : BothAnswers). b.two) towers) alone;
+      one = silence One number hour board c.work_both-towers.result.one after (ap (λ (b : BothAnswers). b.one) towers) alone;
+      two = silence Two number hour board c.work_both-towers.result.two after (ap (λ (b : BothAnswers). b.two) towers) alone;
     }

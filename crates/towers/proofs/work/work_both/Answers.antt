@@ -8,10 +8,10 @@ pub returns : goal.returns
 returns g c =
     let hour = c.args.hour in
     let before = g.B.Bus.cells c.args.bus.now in
-    let middle = g.B.Bus.cells c.work-hour-one.new.bus in
-    let after = g.B.Bus.cells c.work-hour-two.new.bus in
+    let middle = g.B.Bus.cells c.work_hour-one.new.bus in
+    let after = g.B.Bus.cells c.work_hour-two.new.bus in
     let byte : hour < 256 = search rules in
-    let two = second_alone hour byte before middle c.work-hour-two.result (search rules) (search rules) in
+    let two = second_alone hour byte before middle c.work_hour-two.result (search rules) (search rules) in
     let cells : after ≡ after_both hour before = search rules in
     record {
       answer = search rules;
