@@ -1,5 +1,5 @@
 -- What the host sets on a new board reaches the towers.
-use Rattle.std.proofs.Common.{◌≡◌, ℕ, List, sym, ap, ◌∙◌, subst, Bor}
+use Rattle.std.proofs.Common.{◌≡◌, ℕ, List, sym, ap, ◌∙◌, subst, Bor, MutBor}
 use Rattle.bus.specs.declared.cell.Cell.{Cell}
 use Rattle.bus.specs.Address.{at, in_space}
 use Rattle.bus.specs.Cell.{kind_of, read_of}
@@ -11,7 +11,7 @@ use Rattle.dryer_board.specs.Board.{BoardBus, new_board}
 use Rattle.dryer_board.specs.Hour.{with_service, ReadingsReach, ReachesTowers}
 use Rattle.dryer_board.proofs.Apart.{uncovered}
 
-new_reach : (memory image : Bor (List ℕ)) (t : Tower) (hour : Hour) → ReadingsReach t hour (with_service (new_board memory image))
+new_reach : (memory : MutBor (List ℕ)) (image : Bor (List ℕ)) (t : Tower) (hour : Hour) → ReadingsReach t hour (with_service (new_board memory image))
 new_reach memory image One hour =
     let board = with_service (new_board memory image) in
     record {

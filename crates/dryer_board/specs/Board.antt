@@ -1,6 +1,6 @@
 -- The bus of a board with two towers: its parts, its cells and its shape. Assumes nothing.
 use Rattle.std.specs.Prelude.{ℕ, ◌-◌, List, [], Result}
-use Rattle.std.specs.Borrow.{Bor}
+use Rattle.std.specs.Borrow.{Bor, MutBor}
 use Rattle.bus.specs.declared.refusal.Refusal.{Refusal}
 use Rattle.bus.specs.Address.{space}
 use Rattle.bus.specs.Refusal.{passed}
@@ -91,14 +91,14 @@ new_probes = record { boundary = moisture_at Two; low = new_bank first_tag (mois
 abbrev pub new_probe_cells : Cells
 new_probe_cells = joined (moisture_at Two) (silent_cells first_tag) (shifted second_distance (silent_cells second_tag))
 
-abbrev pub new_storage : Bor (List ℕ) → Bor (List ℕ) → Storage
+abbrev pub new_storage : MutBor (List ℕ) → Bor (List ℕ) → Storage
 new_storage memory image = record { boundary = image_at; low = record { base = memory_at; tag = memory_tag; bytes = memory }; high = record { base = image_at; tag = image_tag; bytes = image } }
 
 abbrev pub new_storage_cells : List ℕ → List ℕ → Cells
 new_storage_cells memory image = joined image_at (open_from memory_tag memory_at memory) (fixed_from image_tag image_at image)
 
 -- the probes below the memory, and no silent spans
-abbrev pub new_board : Bor (List ℕ) → Bor (List ℕ) → BoardBus
+abbrev pub new_board : MutBor (List ℕ) → Bor (List ℕ) → BoardBus
 new_board memory image = record { tag = hush_tag; spans = span_list []; below = record { boundary = memory_at; low = new_probes; high = new_storage memory image } }
 
 abbrev pub new_board_cells : List ℕ → List ℕ → Cells

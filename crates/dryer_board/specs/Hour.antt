@@ -1,6 +1,6 @@
 -- One hour of a board: what the host sets, and what the towers then do. Assumes nothing.
 use Rattle.std.specs.Prelude.{◌≡◌, ℕ, Bool, true, false, List, None, Ok}
-use Rattle.std.specs.Borrow.{Bor}
+use Rattle.std.specs.Borrow.{Bor, MutBor}
 use Rattle.bus.specs.declared.cell.Kind.TheVariants.{Open}
 use Rattle.bus.specs.Cell.{kind_of, written}
 use Rattle.bus.specs.Contract.{Cells, read_answer}
@@ -53,7 +53,7 @@ pub record ReadingsReach (t : Tower) (hour : Hour) (b : BoardBus) : Type 0 where
 
 -- it does so on a new board that was set up, whatever the memory and the image are
 abbrev pub ReachesTowers : BoardBus → BoardBus → Type 0
-ReachesTowers before after = (memory image : Bor (List ℕ)) → before ≡ new_board memory image → (t : Tower) (hour : Hour) → ReadingsReach t hour after
+ReachesTowers before after = (memory : MutBor (List ℕ)) (image : Bor (List ℕ)) → before ≡ new_board memory image → (t : Tower) (hour : Hour) → ReadingsReach t hour after
 
 abbrev pub board_answers : ℕ → Cells → BoardAnswers
 board_answers number m = record { set = Ok tt; towers = both_answers number m }
