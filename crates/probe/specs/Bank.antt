@@ -1,5 +1,5 @@
 -- The probe bank: its registers, its cells, its shape, and what the host's settings make of them. Assumes nothing.
-use Rattle.std.specs.Prelude.{◌≡◌, ℕ, ◌+◌, ◌<◌, ◌≤◌, Bool, false, cond, ◌&&◌, ◌∷◌, map, length, set, replicate, Err, Result, ◌==◌, ◌≢◌, nat_lt, slice_index_or, slice_set}
+use Rattle.std.specs.Prelude.{◌≡◌, ℕ, ◌+◌, ◌<◌, ◌≤◌, Bool, false, cond, ◌&&◌, ◌∷◌, map, length, replicate, Err, Result, ◌==◌, ◌≢◌, nat_lt, slice_index_or, slice_set}
 use Rattle.bus.specs.declared.cell.Cell.{Cell}
 use Rattle.bus.specs.declared.cell.Cell.TheVariants.{Silent, Fixed, Open}
 use Rattle.probe.specs.declared.bank.Direction.{Direction}
