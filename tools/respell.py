@@ -1,8 +1,10 @@
 #!/usr/bin/env python3
-"""Respells the repository's own definitions and lemmas in snake case: kindAnswer and same-cells become kind_answer and same_cells.
+"""Respells the repository's own names in snake case: kindAnswer and same-cells become kind_answer and same_cells.
 
-Run at the top of the repository, after port.py. Types and modules keep their camel case; functions of src/, strings, inputs and
-outputs are not touched, nor are names of the library or of the goals and steps that Rattle generates.
+Run at the top of the repository, after port.py. It turns definitions, lemmas, fields, constructors and variables of specs/ and
+proofs/, and those words in the clauses of src/. Types and modules keep their camel case; functions of src/, strings, inputs and
+outputs are not touched, nor are names of the library. It stops where two names would fall together, or where one is also the
+name of a goal or step that Rattle generates.
 """
 import pathlib
 import re

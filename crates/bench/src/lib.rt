@@ -1,4 +1,4 @@
-// Examples of what the crates promise, run as tests: `rt test bench`.
+// Examples of what the crates promise, run as tests by `rt test` in this folder.
 #![tactic(auto)]
 
 ghost use Rattle.std.specs.Prelude.{◌≡◌};
@@ -12,6 +12,8 @@ mod board_examples;
 mod cases;
 #[cfg(test)]
 mod dryer_examples;
+#[cfg(test)]
+mod edge_examples;
 #[cfg(test)]
 mod layer_examples;
 pub mod lent;
