@@ -1,3 +1,2 @@
 mod Addresses
 pub mod Meaning
-mod Writes

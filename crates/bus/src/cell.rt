@@ -6,7 +6,7 @@ use super::address::Address;
 use super::refusal::{Fault, Refusal};
 
 // A tag is a number of the bus or layer that the cell belongs to, given when that is made.
-#[derive(Clone, Copy)]
+#[derive(Clone, Copy, Debug, PartialEq, Eq)]
 pub enum Cell {
     // Answers neither a read nor a write.
     Silent { tag: u8 },
@@ -16,22 +16,18 @@ pub enum Cell {
     Open { byte: u8 },
 }
 
-#[derive(Clone, Copy)]
+#[derive(Clone, Copy, Debug, PartialEq, Eq)]
 pub enum Kind {
-    Silent,
-    Fixed,
-    Open,
+    Silent = 0,
+    Fixed = 1,
+    Open = 2,
 }
 
-impl Kind {
-    pub fn number(self) -> u8
-        ensures { result ≡ kind_number self }
-    {
-        match self {
-            Kind::Silent => 0,
-            Kind::Fixed => 1,
-            Kind::Open => 2,
-        }
+impl From<Kind> for u8 {
+    ghost from_gives = { λ kind number. number ≡ kind_number kind };
+
+    fn from(kind: Kind) -> u8 {
+        kind as u8
     }
 }
 

@@ -3,7 +3,8 @@ ghost use Rattle.std.specs.Prelude.{◌≡◌, ℕ, OnErr};
 ghost use Rattle.bus.specs.Meaning.{WholeMeaning};
 ghost use Rattle.bus.specs.Contract.{Cells, Shape, kind_answer, read_answer, write_answer, put, OneByte};
 
-use super::cell::Kind;
+use super::address::Address;
+use super::cell::{Cell, Kind};
 use super::refusal::Refusal;
 
 pub trait Bus {
@@ -13,20 +14,43 @@ pub trait Bus {
     // All that a bus holds and its cells do not show. No call changes it.
     ghost shape: { Self → Shape };
 
+    // The cell at an address.
+    fn cell(&self, address: Address) -> Cell
+        ensures { result ≡ cells self.now address.value };
+
+    // Puts the byte into the cell if it is open, and leaves any other as it is.
+    fn store(&mut self, address: Address, byte: u8)
+        ensures after { cells self.new ≡ put (cells self.old) address.value byte }
+        ensures kept { shape self.new ≡ shape self.old };
+
     // Which kind the cell is of.
     fn kind(&self, address: u32) -> Result<Kind, Refusal>
-        ensures { result ≡ kind_answer (cells self.now) address };
+        ensures { result ≡ kind_answer (cells self.now) address }
+    {
+        let address = Address::try_from(address)?;
+        Ok(self.cell(address).kind())
+    }
 
     // The byte of a fixed or an open cell.
     fn read(&self, address: u32) -> Result<u8, Refusal>
-        ensures { result ≡ read_answer (cells self.now) address };
+        ensures { result ≡ read_answer (cells self.now) address }
+    {
+        let address = Address::try_from(address)?;
+        self.cell(address).read(address)
+    }
 
     // Puts the byte into an open cell. A refusal leaves the whole bus as it was, and not only what the cells and the shape tell of it.
     fn write(&mut self, address: u32, byte: u8) -> Result<(), Refusal>
         ensures answer { result ≡ write_answer (cells self.old) address }
         ensures after { cells self.new ≡ put (cells self.old) address byte }
         ensures kept { shape self.new ≡ shape self.old }
-        ensures untouched { OnErr result (self.new ≡ self.old) };
+        ensures untouched { OnErr result (self.new ≡ self.old) }
+    {
+        let address = Address::try_from(address)?;
+        self.cell(address).check_write(address)?;
+        self.store(address, byte);
+        Ok(())
+    }
 }
 
 // What `put` means, said without its definition: `OneByte` in `specs/Contract.antt`.

@@ -7,3 +7,4 @@ pub mod cell;
 pub mod contract;
 pub mod extent;
 pub mod refusal;
+pub mod text;

@@ -4,7 +4,7 @@ ghost use Rattle.bus.specs.Refusal.{fault_number, fault_address, fault_tag, refu
 
 use super::address::Address;
 
-#[derive(Clone, Copy)]
+#[derive(Clone, Copy, Debug, PartialEq, Eq)]
 pub enum Refusal {
     // 1: an address or a vector place is above $FFFFFF.
     AddressTooHigh,
@@ -27,7 +27,7 @@ pub enum Refusal {
 }
 
 // The grounds that a guest can fault on, and so all that a faulted guest can hold.
-#[derive(Clone, Copy)]
+#[derive(Clone, Copy, Debug, PartialEq, Eq)]
 pub enum Fault {
     // 9: no window of the fence allows the access to the cell at this address.
     Fenced { address: Address },
@@ -99,7 +99,7 @@ impl Refusal {
         ensures { result ≡ refusal_address self }
     {
         match self {
-            Refusal::Fault(fault) => fault.address().value(),
+            Refusal::Fault(fault) => u32::from(fault.address()),
             _ => 0,
         }
     }
