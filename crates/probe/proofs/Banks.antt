@@ -1,5 +1,5 @@
 -- A bank in which one register was set: its cells, and its shape where the cell is open.
-use Rattle.std.proofs.Common.{◌≡◌, ℕ, ◌+◌, ◌-◌, ◌<◌, ◌≤◌, cond, ◌&&◌, eqb, ltb, List, ◌∷◌, length, set, refl, ap, ◌∙◌, ap₂, arith, get_or-set_other, get_or-set_same}
+use Rattle.std.proofs.Common.{◌≡◌, ℕ, ◌+◌, ◌-◌, ◌<◌, cond, ◌&&◌, eqb, ltb, List, ◌∷◌, length, replicate, set, Some, refl, ap, ◌∙◌, ap₂, arith, get_or-set_other, get_or-set_same}
 use mathlib.Core.Path.{fun_ext}
 use lib.Seq.{map-set_same}
 use Rattle.std.proofs.lemmas.Simd.{get_or-replicate}
@@ -11,7 +11,8 @@ use Rattle.probe.specs.declared.bank.ProbeBank.{ProbeBank}
 use Rattle.bus.specs.Address.{space}
 use Rattle.bus.specs.Cell.{kind_of, written}
 use Rattle.bus.specs.Contract.{Cells, put, holding, plain}
-use Rattle.probe.specs.Bank.{unset, new_bank, silent_cells, register_of, register_cell, bank_cells, bank_shape, with_byte, with_register, replaced, OneRegister, mode_number}
+use Rattle.bus.specs.Extent.{offset_in}
+use Rattle.probe.specs.Bank.{unset, silent_cells, register_of, register_cell, bank_cells, bank_shape, with_byte, with_register, replaced, mode_number}
 
 abbrev pub changed : ProbeBank → ℕ → Register → ProbeBank
 changed bank n r = record { base = bank.base; tag = bank.tag; registers = set bank.registers n r }
@@ -26,49 +27,35 @@ changed_cell bank n r full h a =
 pub set_cells : (bank : ProbeBank) (n : ℕ) (change : Register → Register) → length bank.registers ≡ 32 → {x : ProbeBank} → x ≡ with_register n change bank → bank_cells x ≡ replaced n change bank
 set_cells bank n change full e = ap bank_cells e ∙ fun_ext (λ a. let same = changed_cell bank n (change (register_of bank n)) full in grind (arith, nat_tests, cases_lt n 32))
 
-pub one_register : (bank : ProbeBank) (n : ℕ) (change : Register → Register) → OneRegister bank n change
-one_register bank n change =
-    let r = change (register_of bank n) in
-    record {
-      others = λ k other. let e = get_or-set_other bank.registers n k r unset other in grind (arith, nat_tests);
-      itself = λ full h. let e = get_or-set_same bank.registers n r unset (omega arith) in grind (arith, nat_tests);
-      refused = λ h. grind (arith, nat_tests);
-    }
-
--- an open cell is that of a register that answers and is an output
-found : (bank : ProbeBank) (a : ℕ) → kind_of (bank_cells bank a) ≡ Open → (a < space) × (bank.base ≤ a) × (a - bank.base < 32) × (kind_of (register_cell bank.tag (register_of bank (a - bank.base))) ≡ Open)
-found bank a e = (grind (arith, nat_tests), grind (arith, nat_tests), grind (arith, nat_tests), grind (arith, nat_tests))
+-- which register an address has
+found : (base a n : ℕ) → offset_in base 32 a ≡ Some n → (a < space) × (a ≡ base + n) × (n < 32)
+found base a n e = (grind (arith, nat_tests), grind (arith, nat_tests), grind (arith, nat_tests))
 
 opened : (tag v : ℕ) (r : Register) → kind_of (register_cell tag r) ≡ Open → register_cell tag (with_byte v r) ≡ written v (register_cell tag r)
 opened tag v r e = grind (arith, nat_tests)
 
--- the bank after v was stored at an address
-abbrev pub stored : ProbeBank → ℕ → ℕ → ProbeBank
-stored bank a v = changed bank (a - bank.base) (with_byte v (register_of bank (a - bank.base)))
-
-pub stored_cells : (bank : ProbeBank) (a v : ℕ) → length bank.registers ≡ 32 → kind_of (bank_cells bank a) ≡ Open → bank_cells (stored bank a v) ≡ put (bank_cells bank) a v
-stored_cells bank a v full e =
-    let f = found bank a e in
-    let n = a - bank.base in
-    fun_ext (λ k.
+-- the cells and the shape of a bank after a byte was stored in its register n, which is open and has the address a
+pub stored_cells : (bank : ProbeBank) (a n v : ℕ) → length bank.registers ≡ 32 → offset_in bank.base 32 a ≡ Some n → kind_of (register_cell bank.tag (register_of bank n)) ≡ Open → (r : Register) → r ≡ with_byte v (register_of bank n) → bank_cells (changed bank n r) ≡ put (bank_cells bank) a v
+stored_cells bank a n v full e shown r stored =
+    let f = found bank.base a n e in
+    ap (λ (x : Register). bank_cells (changed bank n x)) stored ∙ fun_ext (λ k.
     let c = changed_cell bank n (with_byte v (register_of bank n)) full f.2 k in
-    let o = opened bank.tag v (register_of bank n) f.3 in
+    let o = opened bank.tag v (register_of bank n) shown in
     grind (arith, nat_tests))
 
-pub stored_shape : (bank : ProbeBank) (a v : ℕ) → length bank.registers ≡ 32 → kind_of (bank_cells bank a) ≡ Open → bank_shape (stored bank a v) ≡ bank_shape bank
-stored_shape bank a v full e =
-    let f = found bank a e in
-    let n = a - bank.base in
-    let r = with_byte v (register_of bank n) in
-    ap₂ (λ (xs : List ℕ) (hidden : Cells). holding (bank.tag ∷ bank.base ∷ xs) hidden plain plain)
-    (map-set_same mode_number bank.registers n r unset refl)
+pub stored_shape : (bank : ProbeBank) (a n v : ℕ) → length bank.registers ≡ 32 → offset_in bank.base 32 a ≡ Some n → kind_of (register_cell bank.tag (register_of bank n)) ≡ Open → (r : Register) → r ≡ with_byte v (register_of bank n) → bank_shape (changed bank n r) ≡ bank_shape bank
+stored_shape bank a n v full e shown r stored =
+    let f = found bank.base a n e in
+    let s = with_byte v (register_of bank n) in
+    ap (λ (x : Register). bank_shape (changed bank n x)) stored ∙ ap₂ (λ (xs : List ℕ) (hidden : Cells). holding (bank.tag ∷ bank.base ∷ xs) hidden plain plain)
+    (map-set_same mode_number bank.registers n s unset refl)
     (fun_ext (λ k.
-    let c = changed_cell bank n r full f.2 (bank.base + k) in
-    let o = opened bank.tag v (register_of bank n) f.3 in
-    let same = get_or-set_same bank.registers n r unset (omega arith) in
-    let other = get_or-set_other bank.registers n k r unset in
+    let c = changed_cell bank n s full f.2 (bank.base + k) in
+    let o = opened bank.tag v (register_of bank n) shown in
+    let same = get_or-set_same bank.registers n s unset (omega arith) in
+    let other = get_or-set_other bank.registers n k s unset in
     grind (arith, nat_tests, cases_eq k n)))
 
 -- no register of a new bank answers
-pub new_cells : (tag base : ℕ) → bank_cells (new_bank tag base) ≡ silent_cells tag
-new_cells tag base = fun_ext (λ a. let u = get_or-replicate 32 (a - base) unset unset in grind (arith, nat_tests))
+pub new_cells : (tag base : ℕ) {new : Register} → new ≡ unset → bank_cells record { base = base; tag = tag; registers = replicate 32 new } ≡ silent_cells tag
+new_cells tag base {new} e = ap (λ r. bank_cells record { base = base; tag = tag; registers = replicate 32 r }) e ∙ fun_ext (λ a. let u = get_or-replicate 32 (a - base) unset unset in grind (arith, nat_tests))

@@ -1,6 +1,6 @@
 -- What the lender of a memory's bytes has, from the cells of the memory at its last use.
-use Rattle.std.proofs.Common.{◌≡◌, ℕ, ◌+◌, ◌≤◌, List, [], ◌∷◌, length, set, sym, refl, ap, ◌∙◌, arith, length-set, get_or-set_other, get_or-set_same}
-use Rattle.std.proofs.lemmas.Bool.{cases_eq}
+use Rattle.std.proofs.Common.{◌≡◌, ℕ, ◌+◌, ◌-◌, ◌≤◌, cond, leb, List, [], ◌∷◌, length, set, sym, refl, ap, ◌∙◌, arith, length-set, get_or-set_other, get_or-set_same}
+use Rattle.std.proofs.lemmas.Bool.{cases_eq, cases_lt}
 use Rattle.std.proofs.lemmas.Bool.Decides.{nat_tests}
 use Rattle.std.proofs.lemmas.List.FromFn.{fill_by_all}
 use Rattle.bus.specs.declared.cell.Cell.TheVariants.{Open}
@@ -20,10 +20,10 @@ lender_has m bytes cells hidden tag base n lender kept home shown room =
     let en : lender ≡ m.bytes.ghost_name = cc in
     home en ∙ fill_by_all (λ i. byte_of (cells (base + i))) xs n 0 el (λ i h. sym (shown_at Open (λ _. refl) m.tag m.base xs i (omega arith) (omega arith)) ∙ ap byte_of (ap (λ b. memory_cells m (b + i)) eb ∙ ap (λ (f : Cells). f (base + i)) shown))
 
--- a write at an address of the memory sets the byte there
-pub put_bytes : (tag base : ℕ) (xs : List ℕ) (i v : ℕ) → base + length xs ≤ space → bytes_from (put (open_from tag base xs) (base + i) v) base (length xs) ≡ set xs i v
-put_bytes tag base xs i v room =
-    sym (fill_by_all (λ k. byte_of (put (open_from tag base xs) (base + i) v (base + k))) (set xs i v) (length xs) 0 (length-set xs i v) (λ k h.
-    let same = get_or-set_same xs i v 0 in
-    let other = get_or-set_other xs i k v 0 in
-    grind (arith, nat_tests, cases_eq k i)))
+-- a write at an address sets the byte there, if there is one
+pub put_bytes : (tag base : ℕ) (xs : List ℕ) (a v : ℕ) → base + length xs ≤ space → bytes_from (put (open_from tag base xs) a v) base (length xs) ≡ cond (leb base a) (set xs (a - base) v) xs
+put_bytes tag base xs a v room =
+    sym (fill_by_all (λ k. byte_of (put (open_from tag base xs) a v (base + k))) (cond (leb base a) (set xs (a - base) v) xs) (length xs) 0 (let l = length-set xs (a - base) v in grind (arith, nat_tests)) (λ k h.
+    let same = get_or-set_same xs (a - base) v 0 in
+    let other = get_or-set_other xs (a - base) k v 0 in
+    grind (arith, nat_tests, cases_eq k (a - base), cases_lt a base)))

@@ -4,12 +4,12 @@ ghost use Rattle.bus.specs.Extent.{fits};
 ghost use Rattle.storage.specs.Image.{fixed_from, image_cells, image_shape, ImageDetermined};
 
 use bus::address::Address;
-use bus::cell::{Cell, Kind};
+use bus::cell::Cell;
 use bus::contract::Bus;
-use bus::extent;
+use bus::extent::Extent;
 use bus::refusal::Refusal;
 
-#[derive(Drop)]
+#[derive(Debug, Drop)]
 pub struct Image<'a> {
     base: u32,
     tag: u8,
@@ -21,7 +21,7 @@ impl<'a> Image<'a> {
     pub fn check(base: u32, length: usize) -> Result<(), Refusal>
         ensures { result ≡ fits base length }
     {
-        extent::check(base, length)
+        Extent { base, length }.check()
     }
 
     // An image of the lent bytes, whatever the numbers: bytes that lie above $FFFFFF have no cell.
@@ -31,18 +31,6 @@ impl<'a> Image<'a> {
     {
         Image { base, tag, bytes }
     }
-
-    fn cell(&self, address: Address) -> Cell
-        ensures { result ≡ image_cells self.now address.value }
-    {
-        match extent::offset(self.base, self.bytes.len(), address) {
-            Some(offset) => Cell::Fixed {
-                byte: self.bytes[offset],
-                tag: self.tag,
-            },
-            None => Cell::Silent { tag: self.tag },
-        }
-    }
 }
 
 impl Bus for Image<'_> {
@@ -50,21 +38,22 @@ impl Bus for Image<'_> {
 
     ghost shape = { image_shape };
 
-    fn kind(&self, address: u32) -> Result<Kind, Refusal> {
-        let at = Address::new(address)?;
-        Ok(self.cell(at).kind())
+    fn cell(&self, address: Address) -> Cell {
+        let extent = Extent {
+            base: self.base,
+            length: self.bytes.len(),
+        };
+        match extent.offset(address) {
+            Some(offset) => Cell::Fixed {
+                byte: self.bytes[offset],
+                tag: self.tag,
+            },
+            None => Cell::Silent { tag: self.tag },
+        }
     }
 
-    fn read(&self, address: u32) -> Result<u8, Refusal> {
-        let at = Address::new(address)?;
-        self.cell(at).read(at)
-    }
-
-    // No cell of an image is open, so there is never a byte to store.
-    fn write(&mut self, address: u32, _byte: u8) -> Result<(), Refusal> {
-        let at = Address::new(address)?;
-        self.cell(at).check_write(at)
-    }
+    // No cell of an image is open.
+    fn store(&mut self, _address: Address, _byte: u8) {}
 }
 
 // An image holds nothing beside its cells and its shape: another with the same has the same numbers and bytes.

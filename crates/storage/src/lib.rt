@@ -3,4 +3,5 @@
 #![tactic(auto)]
 
 pub mod image;
+pub mod lent;
 pub mod memory;

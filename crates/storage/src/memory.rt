@@ -1,18 +1,15 @@
 // Memory: open cells over lent bytes from a base address on, silent cells everywhere else.
-ghost use Rattle.std.specs.Prelude.{◌≡◌};
-ghost use Rattle.bus.specs.declared.cell.Kind.TheVariants.{Open};
-ghost use Rattle.bus.specs.Cell.{kind_of};
-ghost use Rattle.bus.specs.Contract.{put};
-ghost use Rattle.bus.specs.Extent.{fits};
+ghost use Rattle.std.specs.Prelude.{◌≡◌, length};
+ghost use Rattle.bus.specs.Extent.{fits, offset_in};
 ghost use Rattle.storage.specs.Memory.{open_from, memory_cells, memory_shape, MemoryDetermined};
 
 use bus::address::Address;
-use bus::cell::{Cell, Kind};
+use bus::cell::Cell;
 use bus::contract::Bus;
-use bus::extent;
+use bus::extent::Extent;
 use bus::refusal::Refusal;
 
-#[derive(Drop)]
+#[derive(Debug, Drop)]
 pub struct Memory<'a> {
     base: u32,
     tag: u8,
@@ -24,7 +21,7 @@ impl<'a> Memory<'a> {
     pub fn check(base: u32, length: usize) -> Result<(), Refusal>
         ensures { result ≡ fits base length }
     {
-        extent::check(base, length)
+        Extent { base, length }.check()
     }
 
     // A memory over the lent bytes, whatever the numbers: bytes that lie above $FFFFFF have no cell and keep their value.
@@ -35,25 +32,15 @@ impl<'a> Memory<'a> {
         Memory { base, tag, bytes }
     }
 
-    fn cell(&self, address: Address) -> Cell
-        ensures { result ≡ memory_cells self.now address.value }
+    // Where in the bytes the address lies.
+    fn offset(&self, address: Address) -> Option<usize>
+        ensures { result ≡ offset_in self.now.base (length self.now.bytes.now) address.value }
     {
-        match extent::offset(self.base, self.bytes.len(), address) {
-            Some(offset) => Cell::Open {
-                byte: self.bytes[offset],
-            },
-            None => Cell::Silent { tag: self.tag },
-        }
-    }
-
-    // Puts the byte into an open cell.
-    fn store(&mut self, address: Address, byte: u8)
-        requires { kind_of (memory_cells self.old address.value) ≡ Open }
-        ensures after { memory_cells self.new ≡ put (memory_cells self.old) address.value byte }
-        ensures kept { memory_shape self.new ≡ memory_shape self.old }
-    {
-        let offset = (address.value() - self.base) as usize;
-        self.bytes[offset] = byte;
+        let extent = Extent {
+            base: self.base,
+            length: self.bytes.len(),
+        };
+        extent.offset(address)
     }
 }
 
@@ -62,21 +49,19 @@ impl Bus for Memory<'_> {
 
     ghost shape = { memory_shape };
 
-    fn kind(&self, address: u32) -> Result<Kind, Refusal> {
-        let at = Address::new(address)?;
-        Ok(self.cell(at).kind())
+    fn cell(&self, address: Address) -> Cell {
+        match self.offset(address) {
+            Some(offset) => Cell::Open {
+                byte: self.bytes[offset],
+            },
+            None => Cell::Silent { tag: self.tag },
+        }
     }
 
-    fn read(&self, address: u32) -> Result<u8, Refusal> {
-        let at = Address::new(address)?;
-        self.cell(at).read(at)
-    }
-
-    fn write(&mut self, address: u32, byte: u8) -> Result<(), Refusal> {
-        let at = Address::new(address)?;
-        self.cell(at).check_write(at)?;
-        self.store(at, byte);
-        Ok(())
+    fn store(&mut self, address: Address, byte: u8) {
+        if let Some(offset) = self.offset(address) {
+            self.bytes[offset] = byte;
+        }
     }
 }
 

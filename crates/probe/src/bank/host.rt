@@ -1,10 +1,10 @@
 // What the host does with a probe bank: make it, and set its registers one at a time.
-ghost use Rattle.std.specs.Prelude.{◌≡◌, ℕ, Ok};
+ghost use Rattle.std.specs.Prelude.{◌≡◌, ℕ, OnOk, OnErr, Ok};
+ghost use Rattle.std.specs.Fn.{FnOnceReturnsAtMut};
 ghost use Rattle.bus.specs.Extent.{fits};
 ghost use Rattle.probe.specs.Bank.{new_bank, bank_cells, silent_cells, BankDetermined, OneRegister, in_bank, register_of, with_register, with_direction, with_answering, with_byte, replaced};
 
-use super::{Direction, ProbeBank, REGISTERS, Register};
-use bus::extent;
+use super::{Direction, ProbeBank, REGISTERS, Register, extent};
 use bus::refusal::Refusal;
 
 impl ProbeBank {
@@ -12,7 +12,7 @@ impl ProbeBank {
     pub fn check(base: u32) -> Result<(), Refusal>
         ensures { result ≡ fits base 32 }
     {
-        extent::check(base, REGISTERS as usize)
+        extent(base).check()
     }
 
     // A bank of registers that do not answer, whatever the base: registers that lie above $FFFFFF have no cell.
@@ -20,15 +20,10 @@ impl ProbeBank {
         ensures bank { result ≡ new_bank tag base }
         ensures cells { bank_cells result ≡ silent_cells tag }
     {
-        let register = Register {
-            direction: Direction::Input,
-            answering: false,
-            byte: 0,
-        };
         ProbeBank {
             base,
             tag,
-            registers: [register; 32],
+            registers: [Register::default(); REGISTERS],
         }
     }
 
@@ -36,8 +31,26 @@ impl ProbeBank {
     pub fn register(&self, number: u32) -> Result<Register, Refusal>
         ensures { result ≡ in_bank number (Ok (register_of self.now number)) }
     {
-        let place = place(number)?;
-        Ok(self.registers[place])
+        let place = number as usize;
+        self.registers
+            .get(place)
+            .copied()
+            .ok_or(Refusal::OutOfRange)
+    }
+
+    // Changes one register.
+    fn set<F: FnOnce(&mut Register)>(&mut self, number: u32, change: F) -> Result<(), Refusal>
+        requires { F.IsAlwaysCallable change }
+        ensures answer { result ≡ in_bank number (Ok tt) }
+        ensures ok { OnOk result ((r : Register) × FnOnceReturnsAtMut F.FnOnce change (register_of self.old number) tt r × (self.new ≡ with_register number (λ _. r) self.old)) }
+        ensures err { OnErr result (self.new ≡ self.old) }
+    {
+        let place = number as usize;
+        if place >= REGISTERS {
+            return Err(Refusal::OutOfRange);
+        }
+        change(&mut self.registers[place]);
+        Ok(())
     }
 
     pub fn set_direction(&mut self, number: u32, direction: Direction) -> Result<(), Refusal>
@@ -45,10 +58,7 @@ impl ProbeBank {
         ensures bank { self.new ≡ with_register number (with_direction direction) self.old }
         ensures cells { bank_cells self.new ≡ replaced number (with_direction direction) self.old }
     {
-        let place = place(number)?;
-        let register = &mut self.registers[place];
-        register.direction = direction;
-        Ok(())
+        self.set(number, |register| register.direction = direction)
     }
 
     pub fn set_answering(&mut self, number: u32, answering: bool) -> Result<(), Refusal>
@@ -56,10 +66,7 @@ impl ProbeBank {
         ensures bank { self.new ≡ with_register number (with_answering answering) self.old }
         ensures cells { bank_cells self.new ≡ replaced number (with_answering answering) self.old }
     {
-        let place = place(number)?;
-        let register = &mut self.registers[place];
-        register.answering = answering;
-        Ok(())
+        self.set(number, |register| register.answering = answering)
     }
 
     pub fn set_byte(&mut self, number: u32, byte: u8) -> Result<(), Refusal>
@@ -67,10 +74,7 @@ impl ProbeBank {
         ensures bank { self.new ≡ with_register number (with_byte byte) self.old }
         ensures cells { bank_cells self.new ≡ replaced number (with_byte byte) self.old }
     {
-        let place = place(number)?;
-        let register = &mut self.registers[place];
-        register.byte = byte;
-        Ok(())
+        self.set(number, |register| register.byte = byte)
     }
 }
 
@@ -83,14 +87,3 @@ pub fn a_setting_changes_one_register_at_most()
 pub fn cells_and_shape_determine_a_bank()
     ensures { BankDetermined }
 {}
-
-// Where in the table a register stands.
-fn place(number: u32) -> Result<usize, Refusal>
-    ensures { result ≡ in_bank number (Ok number) }
-{
-    if number < REGISTERS {
-        Ok(number as usize)
-    } else {
-        Err(Refusal::OutOfRange)
-    }
-}

@@ -3,8 +3,5 @@ use Rattle.probe.specs.Bank.{with_byte}
 use Rattle.probe.proofs.Banks.{set_cells}
 use Rattle.probe.proofs.bank.ProbeBank.set_byte.Goals as goal
 
-pub returns-in_err-place : goal.returns-in_err-place
-returns-in_err-place c = record { answer = search rules; bank = search rules; cells = search rules }
-
-pub returns : goal.returns
-returns c = record { answer = search rules; bank = search rules; cells = set_cells c.args.self.now c.args.number (with_byte c.args.byte) (search rules) (search rules) }
+pub returns-clause-cells : goal.returns-clause-cells
+returns-clause-cells c = set_cells c.args.self.now c.args.number (with_byte c.args.byte) (search rules) (search rules)
