@@ -1,4 +1,3 @@
--- In reading order: spans and their rule, a list of at most eight, and a list that keeps the rule.
+-- In reading order: spans and their rule, and how they are held.
 pub mod Span
-pub mod List
-pub mod Spans
+pub mod Held

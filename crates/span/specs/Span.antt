@@ -1,5 +1,6 @@
 -- Spans of addresses, their rule, and the test of it. Assumes nothing.
-use Rattle.std.specs.Prelude.{◌≡◌, ℕ, ◌+◌, ◌<◌, ◌≤◌, Bool, true, false, cond, ◌&&◌, ◌||◌, List, [], ◌∷◌, length, is_ok, Ok, Err, Result, nat_le, slice_index_or}
+use Rattle.std.specs.Prelude.{◌≡◌, ℕ, ◌+◌, ◌<◌, ◌≤◌, Bool, true, cond, ◌&&◌, List, [], ◌∷◌, length, is_ok, Ok, Err, Result, nat_le, slice_index_or}
+use Rattle.std.specs.List.{list_any}
 use Rattle.bus.specs.declared.refusal.Refusal.{Refusal}
 use Rattle.bus.specs.declared.refusal.Refusal.TheVariants.{WindowsOrSpans}
 use Rattle.bus.specs.Address.{space, in_space}
@@ -18,8 +19,7 @@ holds s a = nat_le s.first a && nat_le a s.last
 
 -- it lies in one of the spans
 abbrev pub covered : List Span → ℕ → Bool
-covered [] a = false
-covered (s ∷ rest) a = holds s a || covered rest a
+covered spans a = list_any (λ s. holds s a) spans
 
 -- the test of a span that may begin at `from` at the earliest: first its numbers, then their order
 abbrev pub span_answer : ℕ → Span → Result (Unit {0}) Refusal

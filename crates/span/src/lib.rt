@@ -2,6 +2,5 @@
 // The rule stands in the type `Spans`, so what takes one need not test it again.
 #![tactic(auto)]
 
-pub mod list;
 pub mod span;
 pub mod spans;
