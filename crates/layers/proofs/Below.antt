@@ -6,9 +6,7 @@ use Rattle.std.proofs.lemmas.Bool.Decides.{nat_tests}
 use Rattle.bus.specs.Address.{space}
 use Rattle.bus.specs.Contract.{Cells, put}
 use Rattle.span.specs.declared.span.Span.{Span}
-use Rattle.span.specs.declared.list.SpanList.{SpanList}
 use Rattle.span.specs.Span.{covered}
-use Rattle.span.specs.List.{listed}
 use Rattle.layers.specs.Join.{joined}
 use Rattle.layers.specs.Shift.{target, shifted}
 use Rattle.layers.specs.Hush.{hushed, hidden, numbers}
@@ -97,14 +95,11 @@ shift_reaches a v d d' below below' s s' shown shape =
 
 hush_reaches : (a v : ℕ) → HushReaches a v
 hush_reaches a v tag tag' spans spans' below below' s s' shown shape =
-    let count : spans'.count ≡ spans.count = cc in
-    let table : spans'.table ≡ spans.table = same_numbers spans'.table spans.table (cc) in
-    let list : List Span → ℕ → SpanList = λ t n. record { table = t; count = n } in
-    let same : spans' ≡ spans = ap₂ list table count in
-    let kept : hidden (listed spans') below' ≡ hidden (listed spans) below = cc in (
+    let same : spans' ≡ spans = same_numbers spans' spans (cc) in
+    let kept : hidden spans' below' ≡ hidden spans below = cc in (
       cc,
       same,
-      below_hush tag' (listed spans') below' ∙ ap (λ (n : SpanList). uncovered (listed n) (hushed tag' (listed spans') below') (hidden (listed spans') below')) same ∙ ap₂ (uncovered (listed spans)) shown kept ∙ hush_written tag (listed spans) below a v,
+      below_hush tag' spans' below' ∙ ap (λ (n : List Span). uncovered n (hushed tag' spans' below') (hidden spans' below')) same ∙ ap₂ (uncovered spans) shown kept ∙ hush_written tag spans below a v,
       cc,
     )
 
@@ -124,7 +119,7 @@ join_determined b b' low high low' high' s t s' t' shown shape =
 hush_determined : HushDetermined
 hush_determined tag tag' spans spans' below below' s s' shown shape =
     let r = hush_reaches space 0 tag tag' spans spans' below below' s s' shown shape in
-    (r.0, r.1, r.2 ∙ either_way (covered (listed spans) space) below, r.3)
+    (r.0, r.1, r.2 ∙ either_way (covered spans space) below, r.3)
 
 pub layers_determined : LayersDetermined
 layers_determined = record { join = join_determined; shift = shift_reaches space 0; hush = hush_determined }

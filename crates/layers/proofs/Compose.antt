@@ -1,6 +1,5 @@
 -- Layers over buses with the same cells have the same cells, and so cannot be told apart.
-use Rattle.std.proofs.Common.{◌≡◌, ℕ, ◌+◌, ◌%◌, ◌<◌, List, [], refl, mod-lt, arith, lit<}
-use mathlib.Core.Path.{fun_ext}
+use Rattle.std.proofs.Common.{ℕ, ◌+◌, ◌<◌, List, [], refl, mod-lt, arith, lit<}
 use Rattle.std.proofs.lemmas.Bool.Decides.{nat_tests}
 use Rattle.bus.specs.Address.{space}
 use Rattle.bus.specs.Contract.{Cells}
@@ -10,7 +9,7 @@ use Rattle.span.specs.declared.span.Span.{Span}
 use Rattle.layers.specs.Join.{joined}
 use Rattle.layers.specs.Shift.{target, shifted}
 use Rattle.layers.specs.Hush.{hushed}
-use Rattle.layers.specs.Laws.{ByCellsAlone, LayersCompose, LayerLaws}
+use Rattle.layers.specs.Laws.{ByCellsAlone, LayersCompose}
 
 -- a layer that keeps agreement works by cells alone
 by_cells : (layer : Cells → Cells) → ((m n : Cells) → Agree m n → Agree (layer m) (layer n)) → ByCellsAlone layer
@@ -43,20 +42,4 @@ layers_compose =
       shift = λ distance. by_cells (shifted distance) (shift_keeps distance);
       hush = λ tag spans. by_cells (hushed tag spans) (hush_keeps tag spans);
       stack = λ upper lower up low m n e. up (lower m) (lower n) (low m n e []).1;
-    }
-
-two_targets : (d e a : ℕ) → target e (target d a) ≡ target ((d + e) % space) a
-two_targets d e a = omega arith
-
-no_target : (a : ℕ) → a < space → target 0 a ≡ a
-no_target a h = omega arith
-
-pub layer_laws : (m n : Cells) → LayerLaws m n
-layer_laws m n =
-    record {
-      all_low = λ boundary beyond a h. grind (arith, nat_tests);
-      all_high = λ a h. grind (arith, nat_tests);
-      no_shift = fun_ext (λ a. let same = no_target a in grind (arith, nat_tests));
-      two_shifts = λ d e. fun_ext (λ a. let same = two_targets d e a in let below = target_below d a in grind (arith, nat_tests));
-      no_spans = λ tag. refl;
     }

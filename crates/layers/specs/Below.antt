@@ -1,10 +1,9 @@
 -- What the cells and the shape of a layer tell of the buses below it. Assumes nothing.
-use Rattle.std.specs.Prelude.{◌≡◌, ℕ, cond, nat_lt}
+use Rattle.std.specs.Prelude.{◌≡◌, ℕ, List, cond, nat_lt}
 use Rattle.bus.specs.Address.{space}
 use Rattle.bus.specs.Contract.{Cells, Shape, put}
-use Rattle.span.specs.declared.list.SpanList.{SpanList}
+use Rattle.span.specs.declared.span.Span.{Span}
 use Rattle.span.specs.Span.{covered}
-use Rattle.span.specs.List.{listed}
 use Rattle.layers.specs.Join.{joined, joined_shape}
 use Rattle.layers.specs.Shift.{target, shifted, shifted_shape}
 use Rattle.layers.specs.Hush.{hushed, hushed_shape}
@@ -20,7 +19,7 @@ ShiftReaches a v = (d d' : ℕ) (below below' : Cells) (s s' : Shape) → shifte
 
 -- after one through a hush, the bus below has taken it, unless a span covers the address
 abbrev pub HushReaches : ℕ → ℕ → Type 0
-HushReaches a v = (tag tag' : ℕ) (spans spans' : SpanList) (below below' : Cells) (s s' : Shape) → hushed tag' (listed spans') below' ≡ put (hushed tag (listed spans) below) a v → hushed_shape tag' spans' below' s' ≡ hushed_shape tag spans below s → (tag' ≡ tag) × (spans' ≡ spans) × (below' ≡ cond (covered (listed spans) a) below (put below a v)) × (s' ≡ s)
+HushReaches a v = (tag tag' : ℕ) (spans spans' : List Span) (below below' : Cells) (s s' : Shape) → hushed tag' spans' below' ≡ put (hushed tag spans below) a v → hushed_shape tag' spans' below' s' ≡ hushed_shape tag spans below s → (tag' ≡ tag) × (spans' ≡ spans) × (below' ≡ cond (covered spans a) below (put below a v)) × (s' ≡ s)
 
 pub record WriteReaches (a v : ℕ) : Type 0 where
   pub join : JoinReaches a v
@@ -35,7 +34,7 @@ abbrev pub ShiftDetermined : Type 0
 ShiftDetermined = (d d' : ℕ) (below below' : Cells) (s s' : Shape) → shifted d' below' ≡ shifted d below → shifted_shape d' s' ≡ shifted_shape d s → (d' ≡ d) × (below' ≡ below) × (s' ≡ s)
 
 abbrev pub HushDetermined : Type 0
-HushDetermined = (tag tag' : ℕ) (spans spans' : SpanList) (below below' : Cells) (s s' : Shape) → hushed tag' (listed spans') below' ≡ hushed tag (listed spans) below → hushed_shape tag' spans' below' s' ≡ hushed_shape tag spans below s → (tag' ≡ tag) × (spans' ≡ spans) × (below' ≡ below) × (s' ≡ s)
+HushDetermined = (tag tag' : ℕ) (spans spans' : List Span) (below below' : Cells) (s s' : Shape) → hushed tag' spans' below' ≡ hushed tag spans below → hushed_shape tag' spans' below' s' ≡ hushed_shape tag spans below s → (tag' ≡ tag) × (spans' ≡ spans) × (below' ≡ below) × (s' ≡ s)
 
 pub record LayersDetermined : Type 0 where
   pub join : JoinDetermined

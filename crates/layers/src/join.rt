@@ -4,13 +4,14 @@ ghost use Rattle.bus.specs.Address.{space};
 ghost use Rattle.bus.specs.Meaning.{Agree};
 ghost use Rattle.layers.specs.Join.{boundary_answer, joined, join_cells, join_shape};
 
-use bus::address::ADDRESSES;
-use bus::cell::Kind;
+use bus::address::Address;
+use bus::cell::Cell;
 use bus::contract::Bus;
+use bus::extent::Extent;
 use bus::refusal::Refusal;
 
 // The two buses are public: a host reaches one of them by its name.
-#[derive(Drop)]
+#[derive(Debug, Drop)]
 pub struct Join<L, R> {
     boundary: u32,
     pub low: L,
@@ -21,11 +22,11 @@ pub struct Join<L, R> {
 pub fn check(boundary: u32) -> Result<(), Refusal>
     ensures { result ≡ boundary_answer boundary }
 {
-    if boundary <= ADDRESSES {
-        Ok(())
-    } else {
-        Err(Refusal::OutOfRange)
-    }
+    let below = Extent {
+        base: 0,
+        length: boundary as usize,
+    };
+    below.check()
 }
 
 impl<L: Bus, R: Bus> Join<L, R> {
@@ -43,10 +44,10 @@ impl<L: Bus, R: Bus> Join<L, R> {
     }
 
     // Whether an address belongs to the first bus.
-    fn is_low(&self, address: u32) -> bool
-        ensures { result ≡ nat_lt address self.now.boundary }
+    fn is_low(&self, address: Address) -> bool
+        ensures { result ≡ nat_lt address.value self.now.boundary }
     {
-        address < self.boundary
+        u32::from(address) < self.boundary
     }
 }
 
@@ -55,27 +56,19 @@ impl<L: Bus, R: Bus> Bus for Join<L, R> {
 
     ghost shape = { join_shape L.Bus.cells L.Bus.shape R.Bus.cells R.Bus.shape };
 
-    fn kind(&self, address: u32) -> Result<Kind, Refusal> {
+    fn cell(&self, address: Address) -> Cell {
         if self.is_low(address) {
-            self.low.kind(address)
+            self.low.cell(address)
         } else {
-            self.high.kind(address)
+            self.high.cell(address)
         }
     }
 
-    fn read(&self, address: u32) -> Result<u8, Refusal> {
+    fn store(&mut self, address: Address, byte: u8) {
         if self.is_low(address) {
-            self.low.read(address)
+            self.low.store(address, byte);
         } else {
-            self.high.read(address)
-        }
-    }
-
-    fn write(&mut self, address: u32, byte: u8) -> Result<(), Refusal> {
-        if self.is_low(address) {
-            self.low.write(address, byte)
-        } else {
-            self.high.write(address, byte)
+            self.high.store(address, byte);
         }
     }
 }
