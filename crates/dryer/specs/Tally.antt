@@ -1,6 +1,8 @@
 -- Counting calls: as read, as written, as set, or as refused. Assumes nothing.
 use Rattle.std.specs.Prelude.{◌≡◌, ℕ, ◌+◌, ◌-◌, ◌^◌, ◌<◌, min, Ok, Err, Result}
 use Rattle.bus.specs.declared.refusal.Refusal.{Refusal}
+use Rattle.dryer.specs.declared.tally.Call.{Call}
+use Rattle.dryer.specs.declared.tally.Call.TheVariants.{Read, Write, Set}
 use Rattle.dryer.specs.declared.tally.Tally.{Tally}
 
 abbrev pub none : Tally
@@ -13,20 +15,12 @@ all t = t.read + t.written + t.set + t.refused
 abbrev pub more : ℕ → ℕ
 more n = min (n + 1) (2 ^ 32 - 1)
 
-abbrev pub with_refusal : Tally → Tally
-with_refusal t = record { read = t.read; written = t.written; set = t.set; refused = more t.refused }
-
-abbrev pub with_read : Result ℕ Refusal → Tally → Tally
-with_read (Ok byte) t = record { read = more t.read; written = t.written; set = t.set; refused = t.refused }
-with_read (Err e) t = with_refusal t
-
-abbrev pub with_write : Result (Unit {0}) Refusal → Tally → Tally
-with_write (Ok done) t = record { read = t.read; written = more t.written; set = t.set; refused = t.refused }
-with_write (Err e) t = with_refusal t
-
-abbrev pub with_set : Result (Unit {0}) Refusal → Tally → Tally
-with_set (Ok done) t = record { read = t.read; written = t.written; set = more t.set; refused = t.refused }
-with_set (Err e) t = with_refusal t
+-- a call that was refused is one more refused, and one that was done one more of its kind
+abbrev pub counted : {A : Type 0} → Call → Result A Refusal → Tally → Tally
+counted call (Err e) t = record { read = t.read; written = t.written; set = t.set; refused = more t.refused }
+counted Read (Ok x) t = record { read = more t.read; written = t.written; set = t.set; refused = t.refused }
+counted Write (Ok x) t = record { read = t.read; written = more t.written; set = t.set; refused = t.refused }
+counted Set (Ok x) t = record { read = t.read; written = t.written; set = more t.set; refused = t.refused }
 
 -- a call is counted once, while the counts have room
 abbrev pub CountedOnce : Tally → Tally → Type 0

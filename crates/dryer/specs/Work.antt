@@ -1,30 +1,56 @@
 -- One hour of the tower, by the cells of the bank once the readings are set. Assumes nothing.
-use Rattle.std.specs.Prelude.{◌≡◌, ℕ, List, Some, None, Ok, Err, Option, Result}
+use Rattle.std.specs.Prelude.{◌≡◌, ℕ, ◌+◌, List, Some, None, Ok, Err, Option, Result}
 use Rattle.bus.specs.declared.cell.Kind.TheVariants.{Silent}
 use Rattle.bus.specs.declared.refusal.Refusal.{Refusal}
 use Rattle.bus.specs.Cell.{kind_of, written}
 use Rattle.bus.specs.Contract.{Cells, read_answer}
 use Rattle.probe.specs.declared.bank.ProbeBank.{ProbeBank}
 use Rattle.probe.specs.Bank.{bank_cells}
+use Rattle.dryer.specs.declared.control.Places.{Places}
 use Rattle.dryer.specs.declared.plant.Hour.{Hour}
+use Rattle.dryer.specs.declared.tally.Call.TheVariants.{Read, Write, Set}
 use Rattle.dryer.specs.declared.tally.Tally.{Tally}
 use Rattle.dryer.specs.declared.work.Worked.{Worked}
-use Rattle.dryer.specs.Control.{moisture_at, valve_at, controlled}
+use Rattle.dryer.specs.Control.{commanded, controlled}
 use Rattle.dryer.specs.Log.{note_answer, logged}
-use Rattle.dryer.specs.Plant.{with_readings}
-use Rattle.dryer.specs.Tally.{with_read, with_write, with_set}
+use Rattle.dryer.specs.Plant.{with_hour}
+use Rattle.dryer.specs.Tally.{counted}
+
+-- where the probe bank lies, and what its first registers are
+abbrev pub probes_at : ℕ
+probes_at = 512
+
+abbrev pub moisture_at : ℕ
+moisture_at = probes_at
+
+abbrev pub temperature_at : ℕ
+temperature_at = probes_at + 1
+
+abbrev pub valve_at : ℕ
+valve_at = probes_at + 2
+
+abbrev pub places : Places
+places = record { moisture = moisture_at; temperature = temperature_at; valve = valve_at }
+
+-- the temperature above which the valve is closed
+abbrev pub limit : Result ℕ Refusal
+limit = Ok 120
 
 -- the cells that the control finds, once the host has set the readings
 abbrev pub seen : Hour → ProbeBank → Cells
-seen hour bank = bank_cells (with_readings hour bank)
+seen hour bank = bank_cells (with_hour hour bank)
 
--- the log has an answer only where the moisture was read
-abbrev pub note_of : Result ℕ Refusal → List ℕ → ℕ → Option (Result (Unit {0}) Refusal)
-note_of (Ok moisture) log number = Some (note_answer log number)
-note_of (Err e) log number = None
+-- what the valve is set to
+abbrev pub valve_set : Cells → ℕ
+valve_set = commanded places limit
+
+-- there is a call only where something was read
+abbrev pub note_of : Result ℕ Refusal → Result (Unit {0}) Refusal → Option (Result (Unit {0}) Refusal)
+note_of (Ok moisture) answer = Some answer
+note_of (Err e) answer = None
 
 abbrev pub worked : ℕ → Cells → List ℕ → Worked
-worked number m log = record { readings = Ok tt; round = controlled m; noted = note_of (read_answer m moisture_at) log number }
+worked number m log = record { readings = Ok tt; round = controlled places limit m; noted = note_of (read_answer m moisture_at) (note_answer log number) }
 
 abbrev pub log_with : Result ℕ Refusal → List ℕ → ℕ → List ℕ
 log_with (Ok moisture) log number = logged log number moisture
@@ -35,11 +61,11 @@ log_after number m log = log_with (read_answer m moisture_at) log number
 
 abbrev pub with_note : Option (Result (Unit {0}) Refusal) → Tally → Tally
 with_note None t = t
-with_note (Some answer) t = with_write answer t
+with_note (Some answer) t = counted Write answer t
 
 -- every call of the hour counted
 abbrev pub tally_after : Worked → Tally → Tally
-tally_after w t = with_note w.noted (with_write w.round.valve (with_read w.round.temperature (with_read w.round.moisture (with_set w.readings t))))
+tally_after w t = with_note w.noted (counted Write w.round.valve (counted Read w.round.temperature (counted Read w.round.moisture (counted Set w.readings t))))
 
 -- where the moisture probe is silent, nothing is logged and the valve is closed, if its cell can be written at all
 abbrev pub HoldsNoReading : Cells → Cells → List ℕ → List ℕ → Type 0

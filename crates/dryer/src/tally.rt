@@ -1,10 +1,18 @@
 // How many calls were done, by what they did, and how many were refused.
 ghost use Rattle.std.specs.Prelude.{◌≡◌};
-ghost use Rattle.dryer.specs.Tally.{none, all, with_read, with_write, with_set, CountedOnce};
+ghost use Rattle.dryer.specs.Tally.{none, all, more, counted, CountedOnce};
 
 use bus::refusal::Refusal;
 
-#[derive(Clone, Copy)]
+// What a call does: reads a bus, writes to one, or sets something of the plant.
+#[derive(Clone, Copy, Debug, PartialEq, Eq)]
+pub enum Call {
+    Read,
+    Write,
+    Set,
+}
+
+#[derive(Clone, Copy, Debug, Default, PartialEq, Eq)]
 pub struct Tally {
     pub read: u32,
     pub written: u32,
@@ -16,12 +24,7 @@ impl Tally {
     pub fn new() -> Tally
         ensures { result ≡ none }
     {
-        Tally {
-            read: 0,
-            written: 0,
-            set: 0,
-            refused: 0,
-        }
+        Tally::default()
     }
 
     // All calls that were counted.
@@ -31,36 +34,23 @@ impl Tally {
         self.read as u64 + self.written as u64 + self.set as u64 + self.refused as u64
     }
 
-    // Counts a read of a bus.
-    pub fn count_read(&mut self, answer: Result<u8, Refusal>)
-        ensures tally { self.new ≡ with_read answer self.old }
+    // Counts a call by what it answered.
+    pub fn count<T>(&mut self, call: Call, answer: &Result<T, Refusal>)
+        ensures tally { self.new ≡ counted call answer.now self.old }
         ensures once { CountedOnce self.old self.new }
     {
-        match answer {
-            Ok(_) => self.read = self.read.saturating_add(1),
-            Err(_) => self.refused = self.refused.saturating_add(1),
+        match (call, answer) {
+            (_, Err(_)) => count_one(&mut self.refused),
+            (Call::Read, Ok(_)) => count_one(&mut self.read),
+            (Call::Write, Ok(_)) => count_one(&mut self.written),
+            (Call::Set, Ok(_)) => count_one(&mut self.set),
         }
     }
+}
 
-    // Counts a write to a bus.
-    pub fn count_write(&mut self, answer: Result<(), Refusal>)
-        ensures tally { self.new ≡ with_write answer self.old }
-        ensures once { CountedOnce self.old self.new }
-    {
-        match answer {
-            Ok(()) => self.written = self.written.saturating_add(1),
-            Err(_) => self.refused = self.refused.saturating_add(1),
-        }
-    }
-
-    // Counts a setting by the host.
-    pub fn count_set(&mut self, answer: Result<(), Refusal>)
-        ensures tally { self.new ≡ with_set answer self.old }
-        ensures once { CountedOnce self.old self.new }
-    {
-        match answer {
-            Ok(()) => self.set = self.set.saturating_add(1),
-            Err(_) => self.refused = self.refused.saturating_add(1),
-        }
-    }
+// A count stops at the largest number that it can hold.
+fn count_one(count: &mut u32)
+    ensures { count.new ≡ more count.old }
+{
+    *count = count.saturating_add(1);
 }

@@ -2,19 +2,30 @@
 ghost use Rattle.std.specs.Prelude.{◌≡◌};
 ghost use Rattle.bus.specs.Contract.{put};
 ghost use Rattle.probe.specs.Bank.{bank_cells, bank_shape};
-ghost use Rattle.dryer.specs.Control.{valve_at, commanded};
-ghost use Rattle.dryer.specs.Plant.{with_readings};
-ghost use Rattle.dryer.specs.Work.{seen, worked, log_after, tally_after, HoldsNoReading};
+ghost use Rattle.dryer.specs.Plant.{with_hour};
+ghost use Rattle.dryer.specs.Work.{valve_at, seen, valve_set, worked, log_after, tally_after, HoldsNoReading};
 
-use super::control::Round;
+use super::control::{Places, Round};
 use super::plant::Hour;
-use super::tally::Tally;
+use super::tally::{Call, Tally};
 use super::{control, log, plant};
 use bus::refusal::Refusal;
 use probe::bank::ProbeBank;
 
+// Where the probe bank lies on the bus, and what its first registers are.
+pub const PROBES: u32 = 0x200;
+
+pub const PLACES: Places = Places {
+    moisture: PROBES,
+    temperature: PROBES + 1,
+    valve: PROBES + 2,
+};
+
+// Above this temperature the valve is closed.
+pub const MAX_TEMPERATURE: u8 = 120;
+
 // What the calls of one hour answered; where the moisture was not read there is nothing to keep in the log.
-#[derive(Clone, Copy)]
+#[derive(Clone, Copy, Debug, PartialEq, Eq)]
 pub struct Worked {
     pub readings: Result<(), Refusal>,
     pub round: Round,
@@ -29,22 +40,22 @@ pub fn work_hour(
     tally: &mut Tally,
 ) -> Worked
     ensures answer { result ≡ worked number (seen hour probes.old) log.old }
-    ensures cells { bank_cells probes.new ≡ put (seen hour probes.old) valve_at (commanded (seen hour probes.old)) }
-    ensures shape { bank_shape probes.new ≡ bank_shape (with_readings hour probes.old) }
+    ensures cells { bank_cells probes.new ≡ put (seen hour probes.old) valve_at (valve_set (seen hour probes.old)) }
+    ensures shape { bank_shape probes.new ≡ bank_shape (with_hour hour probes.old) }
     ensures log { log.new ≡ log_after number (seen hour probes.old) log.old }
     ensures safe { HoldsNoReading (seen hour probes.old) (bank_cells probes.new) log.old log.new }
     ensures tally { tally.new ≡ tally_after result tally.old }
 {
-    let readings = plant::set_readings(probes, hour);
-    tally.count_set(readings);
-    let round = control::control(probes);
-    tally.count_read(round.moisture);
-    tally.count_read(round.temperature);
-    tally.count_write(round.valve);
+    let readings = plant::set_hour(probes, hour);
+    tally.count(Call::Set, &readings);
+    let round = control::control(probes, PLACES, Ok(MAX_TEMPERATURE));
+    tally.count(Call::Read, &round.moisture);
+    tally.count(Call::Read, &round.temperature);
+    tally.count(Call::Write, &round.valve);
     let noted = match round.moisture {
         Ok(moisture) => {
             let answer = log::note(log, number, moisture);
-            tally.count_write(answer);
+            tally.count(Call::Write, &answer);
             Some(answer)
         }
         Err(_) => None,

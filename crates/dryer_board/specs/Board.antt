@@ -6,7 +6,6 @@ use Rattle.bus.specs.Address.{space}
 use Rattle.bus.specs.Refusal.{passed}
 use Rattle.bus.specs.Contract.{Cells, Shape}
 use Rattle.bus.specs.Extent.{fits}
-use Rattle.span.specs.List.{span_list}
 use Rattle.storage.specs.declared.memory.Memory.{Memory}
 use Rattle.storage.specs.declared.image.Image.{Image}
 use Rattle.storage.specs.Memory.{memory_cells, memory_shape, open_from}
@@ -99,7 +98,7 @@ new_storage_cells memory image = joined image_at (open_from memory_tag memory_at
 
 -- the probes below the memory, and no silent spans
 abbrev pub new_board : MutBor (List ℕ) → Bor (List ℕ) → BoardBus
-new_board memory image = record { tag = hush_tag; spans = span_list []; below = record { boundary = memory_at; low = new_probes; high = new_storage memory image } }
+new_board memory image = record { tag = hush_tag; spans = []; below = record { boundary = memory_at; low = new_probes; high = new_storage memory image } }
 
 abbrev pub new_board_cells : List ℕ → List ℕ → Cells
 new_board_cells memory image = joined memory_at new_probe_cells (new_storage_cells memory image)

@@ -5,31 +5,31 @@ use Rattle.bus.specs.declared.cell.Kind.TheVariants.{Open}
 use Rattle.bus.specs.Cell.{kind_of, written}
 use Rattle.bus.specs.Contract.{Cells, read_answer}
 use Rattle.probe.specs.declared.bank.ProbeBank.{ProbeBank}
-use Rattle.span.specs.declared.list.SpanList.{SpanList}
+use Rattle.span.specs.declared.span.Span.{Span}
 use Rattle.span.specs.Span.{covered}
-use Rattle.span.specs.List.{listed}
 use Rattle.dryer.specs.declared.tally.Tally.{Tally}
 use Rattle.towers.specs.declared.tower.Tower.{Tower}
 use Rattle.towers.specs.declared.tower.Tower.TheVariants.{One, Two}
 use Rattle.towers.specs.declared.work.HourAnswers.{HourAnswers}
-use Rattle.dryer.specs.Tally.{with_set}
+use Rattle.dryer.specs.declared.tally.Call.TheVariants.{Set}
+use Rattle.dryer.specs.Tally as calls
 use Rattle.towers.specs.Tower.{moisture_at, temperature_at, valve_at, own}
 use Rattle.towers.specs.Work.{hour_answers, after_hour, both_answers, counted_both}
 use Rattle.dryer_board.specs.declared.hour.Hour.{Hour}
-use Rattle.dryer_board.specs.declared.probes.Readings.{Readings}
+use Rattle.dryer.specs.declared.plant.Readings.{Readings}
 use Rattle.dryer_board.specs.declared.hour.BoardAnswers.{BoardAnswers}
-use Rattle.dryer_board.specs.Probes.{in_service, with_readings}
+use Rattle.dryer.specs.Plant.{in_service, with_readings}
 use Rattle.dryer_board.specs.Board.{BoardBus, part_cells, board_cells, new_board}
 
 -- a board with its two banks changed and these spans silent, everything else as it was
-abbrev pub changed : (ProbeBank → ProbeBank) → (ProbeBank → ProbeBank) → SpanList → BoardBus → BoardBus
+abbrev pub changed : (ProbeBank → ProbeBank) → (ProbeBank → ProbeBank) → List Span → BoardBus → BoardBus
 changed one two spans b = record { tag = b.tag; spans = spans; below = record { boundary = b.below.boundary; low = record { boundary = b.below.low.boundary; low = one b.below.low.low; high = record { distance = b.below.low.high.distance; below = two b.below.low.high.below } }; high = b.below.high } }
 
 abbrev pub with_service : BoardBus → BoardBus
 with_service b = changed in_service in_service b.spans b
 
 abbrev pub with_hour : Hour → BoardBus → BoardBus
-with_hour hour b = changed (with_readings hour.one) (with_readings hour.two) hour.silent.list b
+with_hour hour b = changed (with_readings hour.one) (with_readings hour.two) hour.silent b
 
 abbrev pub readings_of : Tower → Hour → Readings
 readings_of One hour = hour.one
@@ -43,7 +43,7 @@ abbrev pub unhushed : Hour → BoardBus → Cells
 unhushed hour b = part_cells (with_hour hour b).below
 
 abbrev pub silent_at : Hour → ℕ → Bool
-silent_at hour a = covered (listed hour.silent.list) a
+silent_at hour a = covered hour.silent a
 
 -- What the host sets reaches a tower: unless a span covers them, its probes read as set and its valve is open.
 pub record ReadingsReach (t : Tower) (hour : Hour) (b : BoardBus) : Type 0 where
@@ -60,7 +60,7 @@ board_answers number m = record { set = Ok tt; towers = both_answers number m }
 
 -- every call counted: the setting, and those of the towers
 abbrev pub counted_all : BoardAnswers → Tally → Tally
-counted_all p tally = counted_both p.towers (with_set p.set tally)
+counted_all p tally = counted_both p.towers (calls.counted Set p.set tally)
 
 -- What silent spans mean to a tower. If none of its own cells lies in one, it gets the answers and leaves its own cells as it would without spans.
 -- If its moisture probe does, it logs nothing and its valve is closed, if that cell can be written at all.

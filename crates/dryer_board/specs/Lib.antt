@@ -1,4 +1,3 @@
--- In reading order: what the host sets in one bank, the board, and what the host sets on it.
-pub mod Probes
+-- In reading order: the board, and what the host sets on it.
 pub mod Board
 pub mod Hour

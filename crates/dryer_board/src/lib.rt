@@ -4,4 +4,3 @@
 
 pub mod board;
 pub mod hour;
-pub mod probes;

@@ -1,14 +1,13 @@
 -- A tower reads and changes its own cells alone.
-use Rattle.std.proofs.Common.{◌≡◌, ℕ, ◌<◌, true, false, eqb, Ok, Err, Result, sym, refl, ap, ◌∙◌, arith}
+use Rattle.std.proofs.Common.{◌≡◌, ℕ, ◌<◌, true, false, sym, ap, ◌∙◌, arith}
 use Rattle.std.proofs.lemmas.Bool.Decides.{nat_tests}
-use Rattle.bus.specs.declared.refusal.Refusal.{Refusal}
-use Rattle.bus.specs.Contract.{Cells, read_answer, put}
+use Rattle.bus.specs.Contract.{Cells, read_answer}
 use Rattle.towers.specs.declared.tower.Tower.{Tower}
 use Rattle.towers.specs.declared.tower.Tower.TheVariants.{One, Two}
 use Rattle.towers.specs.declared.work.HourAnswers.{HourAnswers}
 use Rattle.towers.specs.Tower.{limit_at, moisture_at, temperature_at, valve_at, log_at, writes, own}
-use Rattle.towers.specs.Control.{commanded, regulated}
-use Rattle.towers.specs.Work.{hour_answers, after_hour, put_read, OwnCellsAlone, after_both, EachAlone}
+use Rattle.towers.specs.Control.{commanded}
+use Rattle.towers.specs.Work.{hour_answers, after_hour, OwnCellsAlone, after_both, EachAlone}
 
 -- the cells of a tower, the same on two buses
 record SameOwn (t : Tower) (hour : ℕ) (m n : Cells) : Type 0 where
@@ -37,33 +36,15 @@ answers_of t hour m n s = cc
 pub same_answers : (t : Tower) (hour : ℕ) (m n : Cells) → ((a : ℕ) → own t hour a ≡ true → m a ≡ n a) → hour_answers t hour m ≡ hour_answers t hour n
 same_answers t hour m n same = answers_of t hour m n (same_own t hour m n same)
 
-put_elsewhere : (m : Cells) (a v k : ℕ) → eqb k a ≡ false → put m a v k ≡ m k
-put_elsewhere m a v k other = grind (arith, nat_tests)
-
-read_elsewhere : (r : Result ℕ Refusal) (a : ℕ) (m : Cells) (k : ℕ) → eqb k a ≡ false → put_read r a m k ≡ m k
-read_elsewhere (Ok b) a m k other = put_elsewhere m a b k other
-read_elsewhere (Err e) a m k other = refl
-
-put_same : (m n : Cells) (a v w k : ℕ) → v ≡ w → m k ≡ n k → put m a v k ≡ put n a w k
-put_same m n a v w k e f = cc
-
-read_same : (r s : Result ℕ Refusal) (a : ℕ) (m n : Cells) (k : ℕ) → r ≡ s → m k ≡ n k → put_read r a m k ≡ put_read s a n k
-read_same (Ok b) (Ok d) a m n k e f = put_same m n a b d k (cc) f
-read_same (Ok b) (Err x) a m n k e f = cc
-read_same (Err x) (Ok d) a m n k e f = cc
-read_same (Err x) (Err y) a m n k e f = f
-
 same_cell_after : (t : Tower) (hour : ℕ) (m n : Cells) → SameOwn t hour m n → (a : ℕ) → m a ≡ n a → after_hour t hour m a ≡ after_hour t hour n a
-same_cell_after t hour m n s a here =
-    let reading : read_answer m (moisture_at t) ≡ read_answer n (moisture_at t) = cc in
-    read_same _ _ (log_at t hour) (regulated t m) (regulated t n) a reading (put_same m n (valve_at t) (commanded t m) (commanded t n) a (same_command t hour m n s) here)
+same_cell_after t hour m n s a here = let command = same_command t hour m n s in let reading : read_answer m (moisture_at t) ≡ read_answer n (moisture_at t) = cc in grind (arith, nat_tests)
 
 pub same_after : (t : Tower) (hour : ℕ) (m n : Cells) → ((a : ℕ) → own t hour a ≡ true → m a ≡ n a) → (a : ℕ) → own t hour a ≡ true → after_hour t hour m a ≡ after_hour t hour n a
 same_after t hour m n same a mine = same_cell_after t hour m n (same_own t hour m n same) a (same a mine)
 
 -- a cell that the tower does not write
 pub not_written : (t : Tower) (hour : ℕ) (m : Cells) (a : ℕ) → writes t hour a ≡ false → after_hour t hour m a ≡ m a
-not_written t hour m a free = read_elsewhere (read_answer m (moisture_at t)) (log_at t hour) (regulated t m) a (grind (arith, nat_tests)) ∙ put_elsewhere m (valve_at t) (commanded t m) a (grind (arith, nat_tests))
+not_written t hour m a free = grind (arith, nat_tests)
 
 -- the towers write none of each other's cells
 pub after_one : (hour : ℕ) → hour < 256 → (m : Cells) (a : ℕ) → own Two hour a ≡ true → after_hour One hour m a ≡ m a

@@ -7,32 +7,17 @@ use Rattle.bus.specs.Cell.{kind_of}
 use Rattle.bus.specs.Contract.{Cells, read_answer, put}
 use Rattle.towers.specs.declared.tower.Tower.{Tower}
 use Rattle.towers.specs.declared.work.HourAnswers.{HourAnswers}
-use Rattle.towers.specs.Tower.{limit_at, moisture_at, temperature_at, valve_at, log_at, reads}
-use Rattle.towers.specs.Control.{opening_for, commanded, regulated, ClosesOnSilence}
+use Rattle.towers.specs.Tower.{moisture_at, valve_at, log_at, reads}
+use Rattle.towers.specs.Control.{commanded, regulated}
 use Rattle.towers.specs.Work.{hour_answers, after_hour, put_read, HoldsNoReading}
 
 unread : (m : Cells) (a : ℕ) → kind_of (m a) ≡ Silent → is_ok (read_answer m a) ≡ false
 unread m a silent = grind (arith, nat_tests)
 
-no_limit : (l w t : Result ℕ Refusal) → is_ok l ≡ false → opening_for l w t ≡ 0
-no_limit l w t e = grind (arith, nat_tests)
-
-no_moisture : (l w t : Result ℕ Refusal) → is_ok w ≡ false → opening_for l w t ≡ 0
-no_moisture l w t e = grind (arith, nat_tests)
-
-no_temperature : (l w t : Result ℕ Refusal) → is_ok t ≡ false → opening_for l w t ≡ 0
-no_temperature l w t e = grind (arith, nat_tests)
-
 closed : (t : Tower) (m : Cells) (a : ℕ) → reads t a ≡ true → kind_of (m a) ≡ Silent → commanded t m ≡ 0
 closed t m a reading silent =
-    let l = no_limit (read_answer m (limit_at t)) (read_answer m (moisture_at t)) (read_answer m (temperature_at t)) in
-    let w = no_moisture (read_answer m (limit_at t)) (read_answer m (moisture_at t)) (read_answer m (temperature_at t)) in
-    let d = no_temperature (read_answer m (limit_at t)) (read_answer m (moisture_at t)) (read_answer m (temperature_at t)) in
     let no = unread m a silent in
     grind (arith, nat_tests)
-
-pub closes : (t : Tower) (m after : Cells) → after ≡ regulated t m → ClosesOnSilence t m after
-closes t m after e a reading silent = e ∙ ap (put m (valve_at t)) (closed t m a reading silent)
 
 nothing_put : (r : Result ℕ Refusal) (a : ℕ) (m : Cells) → is_ok r ≡ false → put_read r a m ≡ m
 nothing_put (Ok b) a m e = cc

@@ -1,5 +1,6 @@
 -- Where each tower has its cells. Assumes nothing.
 use Rattle.std.specs.Prelude.{ℕ, ◌+◌, Bool, ◌||◌, ◌==◌}
+use Rattle.dryer.specs.declared.control.Places.{Places}
 use Rattle.towers.specs.declared.tower.Tower.{Tower}
 use Rattle.towers.specs.declared.tower.Tower.TheVariants.{One, Two}
 
@@ -18,6 +19,9 @@ temperature_at t = moisture_at t + 1
 
 abbrev pub valve_at : Tower → ℕ
 valve_at t = moisture_at t + 2
+
+abbrev pub places : Tower → Places
+places t = record { moisture = moisture_at t; temperature = temperature_at t; valve = valve_at t }
 
 -- in the memory: the moisture of each hour
 abbrev pub log_at : Tower → ℕ → ℕ

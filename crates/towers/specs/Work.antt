@@ -1,5 +1,5 @@
 -- One hour of a tower: the control does a round, and the log keeps the moisture. Assumes nothing.
-use Rattle.std.specs.Prelude.{◌≡◌, ℕ, true, false, Some, None, Ok, Err, Option, Result}
+use Rattle.std.specs.Prelude.{◌≡◌, ℕ, true, false, None, Ok, Err, Result}
 use Rattle.bus.specs.declared.cell.Kind.TheVariants.{Silent}
 use Rattle.bus.specs.declared.refusal.Refusal.{Refusal}
 use Rattle.bus.specs.Cell.{kind_of}
@@ -11,12 +11,9 @@ use Rattle.towers.specs.declared.work.HourAnswers.{HourAnswers}
 use Rattle.towers.specs.declared.work.BothAnswers.{BothAnswers}
 use Rattle.towers.specs.Tower.{moisture_at, valve_at, log_at, writes, own}
 use Rattle.towers.specs.Control.{controlled, regulated}
-use Rattle.dryer.specs.Tally.{with_read, with_write}
-
--- the log has an answer only where the moisture was read
-abbrev pub note_of : Result ℕ Refusal → Result (Unit {0}) Refusal → Option (Result (Unit {0}) Refusal)
-note_of (Ok moisture) answer = Some answer
-note_of (Err e) answer = None
+use Rattle.dryer.specs.declared.tally.Call.TheVariants.{Read, Write}
+use Rattle.dryer.specs.Tally as calls
+use Rattle.dryer.specs.Work.{note_of, with_note}
 
 abbrev pub hour_answers : Tower → ℕ → Cells → HourAnswers
 hour_answers t hour m = record { round = controlled t m; noted = note_of (read_answer m (moisture_at t)) (write_answer (regulated t m) (log_at t hour)) }
@@ -30,13 +27,9 @@ put_read (Err e) a m = m
 abbrev pub after_hour : Tower → ℕ → Cells → Cells
 after_hour t hour m = put_read (read_answer m (moisture_at t)) (log_at t hour) (regulated t m)
 
-abbrev pub with_note : Option (Result (Unit {0}) Refusal) → Tally → Tally
-with_note None tally = tally
-with_note (Some answer) tally = with_write answer tally
-
 -- every call of the hour counted
 abbrev pub counted : HourAnswers → Tally → Tally
-counted w tally = with_note w.noted (with_write w.round.valve (with_read w.round.temperature (with_read w.round.moisture (with_read w.round.limit tally))))
+counted w tally = with_note w.noted (calls.counted Write w.round.valve (calls.counted Read w.round.temperature (calls.counted Read w.round.moisture (calls.counted Read w.round.limit tally))))
 
 -- each of two towers gets the answers that it would get alone on the bus, since neither writes a cell of the other
 abbrev pub both_answers : ℕ → Cells → BothAnswers

@@ -1,8 +1,10 @@
 // The two towers, and where each has its cells.
 ghost use Rattle.std.specs.Prelude.{◌≡◌};
-ghost use Rattle.towers.specs.Tower.{limit_at, moisture_at, temperature_at, valve_at, log_at};
+ghost use Rattle.towers.specs.Tower.{limit_at, moisture_at, temperature_at, valve_at, places, log_at};
 
-#[derive(Clone, Copy)]
+use dryer::control::Places;
+
+#[derive(Clone, Copy, Debug, PartialEq, Eq)]
 pub enum Tower {
     One,
     Two,
@@ -41,6 +43,17 @@ impl Tower {
         ensures { result ≡ valve_at self }
     {
         self.moisture_at() + 2
+    }
+
+    // All three.
+    pub fn places(self) -> Places
+        ensures { result ≡ places self }
+    {
+        Places {
+            moisture: self.moisture_at(),
+            temperature: self.temperature_at(),
+            valve: self.valve_at(),
+        }
     }
 
     // Where the tower logs the moisture of an hour: a byte for each of 256 hours.

@@ -1,17 +1,18 @@
 // One hour of a tower: the control does its round, and the log keeps the moisture.
 ghost use Rattle.std.specs.Prelude.{◌≡◌};
 ghost use Rattle.bus.specs.Contract.{write_answer};
-ghost use Rattle.towers.specs.Work.{hour_answers, after_hour, counted, note_of, put_read, with_note, HoldsNoReading, OwnCellsAlone, both_answers, after_both, counted_both, EachAlone};
+ghost use Rattle.dryer.specs.Work.{note_of, with_note};
+ghost use Rattle.towers.specs.Work.{hour_answers, after_hour, counted, put_read, HoldsNoReading, OwnCellsAlone, both_answers, after_both, counted_both, EachAlone};
 
 use super::control;
-use super::control::Round;
 use super::tower::Tower;
 use bus::contract::Bus;
 use bus::refusal::Refusal;
-use dryer::tally::Tally;
+use dryer::control::Round;
+use dryer::tally::{Call, Tally};
 
 // What the calls of one hour answered; where the moisture was not read there is nothing to keep in the log.
-#[derive(Clone, Copy)]
+#[derive(Clone, Copy, Debug, PartialEq, Eq)]
 pub struct HourAnswers {
     pub round: Round,
     pub noted: Option<Result<(), Refusal>>,
@@ -26,16 +27,16 @@ pub fn work_hour<B: Bus>(bus: &mut B, tower: Tower, hour: u8, tally: &mut Tally)
     ensures alone { OwnCellsAlone tower hour result (B.Bus.cells bus.old) (B.Bus.cells bus.new) }
 {
     let round = control::control(bus, tower);
-    tally.count_read(round.limit);
-    tally.count_read(round.moisture);
-    tally.count_read(round.temperature);
-    tally.count_write(round.valve);
+    tally.count(Call::Read, &round.limit);
+    tally.count(Call::Read, &round.moisture);
+    tally.count(Call::Read, &round.temperature);
+    tally.count(Call::Write, &round.valve);
     let noted = note(bus, tower.log_at(hour), round.moisture, tally);
     HourAnswers { round, noted }
 }
 
 // What the calls of both towers answered in one hour.
-#[derive(Clone, Copy)]
+#[derive(Clone, Copy, Debug, PartialEq, Eq)]
 pub struct BothAnswers {
     pub one: HourAnswers,
     pub two: HourAnswers,
@@ -69,7 +70,7 @@ fn note<B: Bus>(
     match reading {
         Ok(byte) => {
             let answer = bus.write(address, byte);
-            tally.count_write(answer);
+            tally.count(Call::Write, &answer);
             Some(answer)
         }
         Err(_) => None,

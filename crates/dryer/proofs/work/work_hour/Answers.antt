@@ -4,22 +4,8 @@ use Rattle.dryer.specs.Work.{seen}
 use Rattle.dryer.proofs.Silence.{no_reading}
 use Rattle.dryer.proofs.work.work_hour.Goals as goal
 
-pub returns-in-Ok : goal.returns-in-Ok
-returns-in-Ok c = record {
-  answer = search rules;
-  cells = search rules;
-  shape = search rules;
-  log = search rules;
-  tally = search rules;
-  safe = no_reading c.args.number (seen c.args.hour c.args.probes.now) (bank_cells c.control-round.new.probes) c.args.log.now c.note-answer.new.log (search rules) (search rules);
-}
+pub returns-in-Ok-clause-safe : goal.returns-in-Ok-clause-safe
+returns-in-Ok-clause-safe c = no_reading c.args.number (seen c.args.hour c.args.probes.now) (bank_cells c.control-round.new.bus) c.args.log.now c.note-answer.new.log (search rules) (search rules)
 
-pub returns-in-Err : goal.returns-in-Err
-returns-in-Err c = record {
-  answer = search rules;
-  cells = search rules;
-  shape = search rules;
-  log = search rules;
-  tally = search rules;
-  safe = no_reading c.args.number (seen c.args.hour c.args.probes.now) (bank_cells c.control-round.new.probes) c.args.log.now c.args.log.now (search rules) (search rules);
-}
+pub returns-in-Err-clause-safe : goal.returns-in-Err-clause-safe
+returns-in-Err-clause-safe c = no_reading c.args.number (seen c.args.hour c.args.probes.now) (bank_cells c.control-round.new.bus) c.args.log.now c.args.log.now (search rules) (search rules)

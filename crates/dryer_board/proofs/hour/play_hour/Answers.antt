@@ -13,7 +13,7 @@ use Rattle.dryer_board.proofs.hour.play_hour.Goals as goal
 pub returns : goal.returns
 returns c =
     let number = c.args.number in
-    let hour = c.args.hour in
+    let hour = c.args.hour.now in
     let board = c.args.board.now in
     let after = board_cells c.work_both-towers.new.bus in
     let set = c.set_hour-set.ensures.board in
