@@ -1,8 +1,9 @@
 // Six hours of two dryer towers on one board: what was set, read, written and refused.
 #![tactic(auto)]
 
+mod hours;
+mod parts;
 mod play;
-mod report;
 
 use std::io;
 

@@ -1,160 +1,135 @@
-// What the program plays: six hours, in two of which the first tower's moisture probe is silent and the second one's is not.
-use crate::report;
+// What the program plays: six hours of the board, then reads of the logs, and calls and settings that are refused.
+use crate::hours::{HOURS, WIDTH};
+use crate::{hours, parts};
+use bus::address::ADDRESSES;
 use bus::contract::Bus;
-use bus::refusal::Refusal;
 use dryer::tally::Tally;
 use dryer_board::board::BoardBus;
-use dryer_board::hour::Hour;
-use dryer_board::probes::Readings;
 use dryer_board::{board, hour};
 use layers::{join, shift};
+use report::access::Line;
+use report::setting::Setting;
+use report::total::Total;
 use span::span::Span;
 use span::spans::Spans;
 use std::io;
 use towers::tower::Tower;
 
-// For each hour moisture and temperature at either tower, and whether the first one's moisture probe is silent.
-const HOURS: [((u8, u8), (u8, u8), bool); 6] = [
-    ((14, 71), (16, 75), false),
-    ((12, 88), (14, 92), false),
-    ((9, 96), (11, 101), true),
-    ((9, 104), (10, 112), true),
-    ((11, 112), (9, 106), false),
-    ((8, 90), (7, 88), false),
-];
-
 // Above these temperatures the towers close their valves.
 const LIMITS: [u8; 2] = [120, 110];
 
+// The host of the board: it has the board, and counts the calls.
+#[derive(Debug, Drop)]
+struct Host<'a> {
+    board: BoardBus<'a>,
+    tally: Tally,
+}
+
+// How many bytes the logs have: one for each of 256 hours of either tower.
+const LOG_BYTES: usize = 0x200;
+
 pub(crate) fn play(rt: &HostRuntime) -> io::Result<()> {
-    let mut logs = [0u8; 0x200];
-    if let Err(refusal) = board::check(logs.len(), LIMITS.len()) {
-        return report::refused(rt, "the board", refusal);
-    }
-    let probe = Span {
-        first: Tower::One.moisture_at(),
-        last: Tower::One.moisture_at(),
+    let mut logs = [0u8; LOG_BYTES];
+    let check = Setting {
+        what: "the board",
+        answer: board::check(logs.len(), LIMITS.len()),
     };
-    let silent = match Spans::check(&[probe]) {
-        Ok(spans) => spans,
-        Err(refusal) => return report::refused(rt, "the silent span", refusal),
+    if check.answer.is_err() {
+        return rt.println(check);
+    }
+    let mut host = Host {
+        board: board::build(&mut logs, &LIMITS),
+        tally: Tally::new(),
     };
-    let mut board = board::build(&mut logs, &LIMITS);
-    let mut tally = Tally::new();
-    report::parts(rt)?;
-    let ready = hour::set_up(&mut board);
-    set(rt, "probes and valves answer", ready, &mut tally)?;
-    play_hours(rt, silent, &mut board, &mut tally)?;
-    read_logs(rt, &board, &mut tally)?;
-    make_refused_calls(rt, &mut board, &mut tally)?;
-    make_refused_settings(rt, &mut board, &mut tally)?;
-    report::close(rt, tally)
-}
-
-fn play_hours(
-    rt: &HostRuntime,
-    silent: Spans,
-    board: &mut BoardBus<'_>,
-    tally: &mut Tally,
-) -> io::Result<()> {
-    for (number, (one, two, is_silent)) in (0u8..6).zip(HOURS) {
-        let set = Hour {
-            one: readings(one),
-            two: readings(two),
-            silent: if is_silent { silent } else { Spans::empty() },
-        };
-        let played = hour::play_hour(board, number, set, tally);
-        report::hour(rt, number, set, is_silent, played)?;
-    }
-    Ok(())
-}
-
-fn readings(measured: (u8, u8)) -> Readings {
-    let (moisture, temperature) = measured;
-    Readings {
-        moisture,
-        temperature,
-    }
-}
-
-// What the logs have for each hour.
-fn read_logs(rt: &HostRuntime, board: &BoardBus<'_>, tally: &mut Tally) -> io::Result<()> {
+    parts::print(rt)?;
+    host.set_up(rt)?;
+    host.play_hours(rt)?;
     println!(rt; "logs")?;
-    for tower in [Tower::One, Tower::Two] {
-        for number in 0..6u8 {
-            let logged = board.read(tower.log_at(number));
-            report::read(rt, "log", tower.log_at(number), logged)?;
-            tally.count_read(logged);
-        }
-    }
-    Ok(())
-}
-
-// Calls that are refused: a write to a probe and to a limit, a read above the last address and past the logs.
-fn make_refused_calls(
-    rt: &HostRuntime,
-    board: &mut BoardBus<'_>,
-    tally: &mut Tally,
-) -> io::Result<()> {
+    host.read_logs(rt)?;
     println!(rt; "afterwards")?;
-    let written = [
-        ("temperature", Tower::Two.temperature_at()),
-        ("limit", Tower::One.limit_at()),
-    ];
-    for (what, address) in written {
-        let answer = board.write(address, 0);
-        report::write(rt, what, address, 0, answer)?;
-        tally.count_write(answer);
+    host.make_refused_calls(rt)?;
+    host.make_refused_settings(rt)?;
+    rt.println(Total(host.tally))
+}
+
+impl Host<'_> {
+    fn set_up(&mut self, rt: &HostRuntime) -> io::Result<()> {
+        let ready = Setting {
+            what: "probes and valves answer",
+            answer: hour::set_up(&mut self.board),
+        };
+        ready.print_and_count(rt, &mut self.tally)
     }
-    for (what, address) in [("no address", 0x100_0000), ("past the logs", 0x1200)] {
-        let answer = board.read(address);
-        report::read(rt, what, address, answer)?;
-        tally.count_read(answer);
+
+    fn play_hours(&mut self, rt: &HostRuntime) -> io::Result<()> {
+        for (number, planned) in (0..=u8::MAX).zip(HOURS) {
+            match planned.hour() {
+                Ok(hour) => {
+                    let played = hour::play_hour(&mut self.board, number, &hour, &mut self.tally);
+                    hours::print(rt, number, &hour, played)?;
+                }
+                Err(refusal) => rt.println(Setting {
+                    what: "the silent spans",
+                    answer: Err(refusal),
+                })?,
+            }
+        }
+        Ok(())
     }
-    Ok(())
-}
 
-// Settings that are refused: a register that does not exist, spans that overlap, and numbers that are too large for layers.
-fn make_refused_settings(
-    rt: &HostRuntime,
-    board: &mut BoardBus<'_>,
-    tally: &mut Tally,
-) -> io::Result<()> {
-    let bank = &mut board.below.low.high.below;
-    let register = bank.set_byte(32, 1);
-    let overlapping = Spans::check(&[Span { first: 1, last: 5 }, Span { first: 5, last: 9 }]);
-    set(rt, "register 32", register, tally)?;
-    set(rt, "spans that overlap", done(overlapping), tally)?;
-    set(
-        rt,
-        "a boundary of 16,777,217",
-        join::check(0x100_0001),
-        tally,
-    )?;
-    set(
-        rt,
-        "a distance of 16,777,216",
-        shift::check(0x100_0000),
-        tally,
-    )
-}
+    // What the logs have for each hour.
+    fn read_logs(&mut self, rt: &HostRuntime) -> io::Result<()> {
+        for tower in [Tower::One, Tower::Two] {
+            for number in (0..=u8::MAX).take(HOURS.len()) {
+                self.read(rt, "log", tower.log_at(number))?;
+            }
+        }
+        Ok(())
+    }
 
-// Prints a setting by the host and counts it.
-fn set(
-    rt: &HostRuntime,
-    what: &str,
-    answer: Result<(), Refusal>,
-    tally: &mut Tally,
-) -> io::Result<()> {
-    report::set(rt, what, answer)?;
-    tally.count_set(answer);
-    Ok(())
-}
+    // Writes to a probe and to a limit, and reads above the last address and past the logs.
+    fn make_refused_calls(&mut self, rt: &HostRuntime) -> io::Result<()> {
+        self.write(rt, "temperature", Tower::Two.temperature_at(), 0)?;
+        self.write(rt, "limit", Tower::One.limit_at(), 0)?;
+        self.read(rt, "no address", ADDRESSES)?;
+        self.read(rt, "past the logs", Tower::One.log_at(0) + LOG_BYTES as u32)
+    }
 
-// Whether a test was passed, without what it answers.
-fn done(answer: Result<Spans, Refusal>) -> Result<(), Refusal> {
-    match answer {
-        Ok(_) => Ok(()),
-        Err(refusal) => Err(refusal),
+    fn read(&mut self, rt: &HostRuntime, what: &str, address: u32) -> io::Result<()> {
+        let line = Line::<WIDTH>::read(what, address, self.board.read(address));
+        line.print_and_count(rt, &mut self.tally)
+    }
+
+    fn write(&mut self, rt: &HostRuntime, what: &str, address: u32, byte: u8) -> io::Result<()> {
+        let line = Line::<WIDTH>::write(what, address, byte, self.board.write(address, byte));
+        line.print_and_count(rt, &mut self.tally)
+    }
+
+    // A register that does not exist, spans that overlap, and numbers that are too large for layers.
+    fn make_refused_settings(&mut self, rt: &HostRuntime) -> io::Result<()> {
+        let bank = &mut self.board.below.low.high.below;
+        let overlapping = [Span { first: 1, last: 5 }, Span { first: 5, last: 9 }];
+        let settings = [
+            Setting {
+                what: "register 32",
+                answer: bank.set_byte(32, 1),
+            },
+            Setting {
+                what: "spans that overlap",
+                answer: Spans::check(&overlapping).map(|_| ()),
+            },
+            Setting {
+                what: "a boundary of 16,777,217",
+                answer: join::check(ADDRESSES + 1),
+            },
+            Setting {
+                what: "a distance of 16,777,216",
+                answer: shift::check(ADDRESSES),
+            },
+        ];
+        for setting in settings {
+            setting.print_and_count(rt, &mut self.tally)?;
+        }
+        Ok(())
     }
 }

@@ -1,7 +1,7 @@
 // One shift of a dryer tower, played on a probe bank and a memory: what was read, written and refused.
 #![tactic(auto)]
 
-mod report;
+mod hours;
 mod shift;
 
 use std::io;

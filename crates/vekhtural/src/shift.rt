@@ -1,91 +1,110 @@
-// The shift that the program plays: eight hours, in two of which the moisture probe does not answer.
-use crate::report;
+// The shift as the program plays it on one tower, and calls that are refused after it.
+use crate::hours;
+use crate::hours::{SHIFT, WIDTH};
+use bus::address::ADDRESSES;
 use bus::contract::Bus;
-use dryer::plant::Hour;
+use bus::text::Hex;
+use dryer::log::{LOG, LOG_TAG};
 use dryer::tally::Tally;
-use dryer::{control, log, plant, work};
+use dryer::work::{PLACES, PROBES};
+use dryer::{plant, work};
 use probe::bank::ProbeBank;
+use report::access::Line;
+use report::setting::Setting;
+use report::total::Total;
 use std::io;
 use storage::memory::Memory;
 
 const PROBES_TAG: u8 = 7;
 
-// For each hour moisture, temperature, and whether the moisture probe answers.
-const SHIFT: [(u8, u8, bool); 8] = [
-    (14, 71, true),
-    (12, 88, true),
-    (9, 96, true),
-    (9, 104, false),
-    (9, 97, false),
-    (11, 82, true),
-    (8, 124, true),
-    (7, 90, true),
-];
+// The log has a byte for each hour.
+const HOURS: usize = SHIFT.len();
+
+// The tower: its probe bank, its log, and the count of the calls.
+#[derive(Debug, Drop)]
+struct Tower {
+    probes: ProbeBank,
+    log: [u8; HOURS],
+    tally: Tally,
+}
 
 pub(crate) fn play(rt: &HostRuntime) -> io::Result<()> {
-    if let Err(refusal) = ProbeBank::check(control::PROBES) {
-        return report::refused(rt, "the probe bank", refusal);
+    let checks = [
+        Setting {
+            what: "the probe bank",
+            answer: ProbeBank::check(PROBES),
+        },
+        Setting {
+            what: "the log",
+            answer: Memory::check(LOG, HOURS),
+        },
+    ];
+    for check in checks {
+        if check.answer.is_err() {
+            return rt.println(check);
+        }
     }
-    if let Err(refusal) = Memory::check(log::LOG, SHIFT.len()) {
-        return report::refused(rt, "the log", refusal);
-    }
-    let mut probes = ProbeBank::new(control::PROBES, PROBES_TAG);
-    let mut log = [0u8; 8];
-    let mut tally = Tally::new();
-    println!(rt;
-        "A dryer tower: probes from ${:06X} on, tag {PROBES_TAG}; log from ${:06X} on, tag {}",
-        control::PROBES,
-        log::LOG,
-        log::LOG_TAG
-    )?;
-    let ready = plant::set_up(&mut probes);
-    report::set(rt, "probes and valve answer", ready)?;
-    tally.count_set(ready);
-    work_hours(rt, &mut probes, &mut log, &mut tally)?;
-    make_refused_calls(rt, &mut probes, &mut log, &mut tally)?;
-    println!(rt; "log: {log:?}")?;
-    report::close(rt, tally)
+    let mut tower = Tower {
+        probes: ProbeBank::new(PROBES, PROBES_TAG),
+        log: [0; HOURS],
+        tally: Tally::new(),
+    };
+    tower.play(rt)
 }
 
-fn work_hours(
-    rt: &HostRuntime,
-    probes: &mut ProbeBank,
-    log: &mut [u8],
-    tally: &mut Tally,
-) -> io::Result<()> {
-    for number in 0..8u8 {
-        let (moisture, temperature, moisture_answers) = SHIFT[number as usize];
-        let hour = Hour {
-            moisture,
-            temperature,
-            moisture_answers,
+impl Tower {
+    fn play(&mut self, rt: &HostRuntime) -> io::Result<()> {
+        let probes = Hex(PROBES);
+        let log = Hex(LOG);
+        println!(rt;
+            "A dryer tower: probes from {probes} on, tag {PROBES_TAG}; log from {log} on, tag {LOG_TAG}"
+        )?;
+        self.set_up(rt)?;
+        self.work_hours(rt)?;
+        println!(rt; "after the shift")?;
+        self.make_refused_calls(rt)?;
+        let log = self.log;
+        println!(rt; "log: {log:?}")?;
+        rt.println(Total(self.tally))
+    }
+
+    fn set_up(&mut self, rt: &HostRuntime) -> io::Result<()> {
+        let ready = Setting {
+            what: "probes and valve answer",
+            answer: plant::set_up(&mut self.probes),
         };
-        let worked = work::work_hour(number, hour, probes, log, tally);
-        report::hour(rt, number, hour, worked)?;
+        ready.print_and_count(rt, &mut self.tally)
     }
-    Ok(())
-}
 
-// Calls that are refused: a write to a probe, a read above the last address, a read past the log, a setting of a register that does not exist.
-fn make_refused_calls(
-    rt: &HostRuntime,
-    probes: &mut ProbeBank,
-    log: &mut [u8],
-    tally: &mut Tally,
-) -> io::Result<()> {
-    println!(rt; "after the shift")?;
-    let overwritten = probes.write(control::TEMPERATURE, 70);
-    report::write(rt, "temperature", control::TEMPERATURE, 70, overwritten)?;
-    tally.count_write(overwritten);
-    let above = probes.read(0x100_0000);
-    report::read(rt, "no address", 0x100_0000, above)?;
-    tally.count_read(above);
-    let memory = Memory::new(log::LOG, log::LOG_TAG, log);
-    let past = memory.read(log::LOG + 8);
-    report::read(rt, "past the log", log::LOG + 8, past)?;
-    tally.count_read(past);
-    let missing = probes.set_byte(32, 1);
-    report::set(rt, "register 32", missing)?;
-    tally.count_set(missing);
-    Ok(())
+    fn work_hours(&mut self, rt: &HostRuntime) -> io::Result<()> {
+        for (number, hour) in (0..=u8::MAX).zip(SHIFT) {
+            let worked = work::work_hour(
+                number,
+                hour,
+                &mut self.probes,
+                &mut self.log,
+                &mut self.tally,
+            );
+            hours::print(rt, number, hour, worked)?;
+        }
+        Ok(())
+    }
+
+    // A write to a probe, a read above the last address, a read past the log, a setting of a register that does not exist.
+    fn make_refused_calls(&mut self, rt: &HostRuntime) -> io::Result<()> {
+        let at = PLACES.temperature;
+        let overwritten = Line::<WIDTH>::write("temperature", at, 70, self.probes.write(at, 70));
+        overwritten.print_and_count(rt, &mut self.tally)?;
+        let above = Line::<WIDTH>::read("no address", ADDRESSES, self.probes.read(ADDRESSES));
+        above.print_and_count(rt, &mut self.tally)?;
+        let end = LOG + HOURS as u32;
+        let memory = Memory::new(LOG, LOG_TAG, &mut self.log);
+        let past = Line::<WIDTH>::read("past the log", end, memory.read(end));
+        past.print_and_count(rt, &mut self.tally)?;
+        let missing = Setting {
+            what: "register 32",
+            answer: self.probes.set_byte(32, 1),
+        };
+        missing.print_and_count(rt, &mut self.tally)
+    }
 }
