@@ -1,27 +1,26 @@
 // Examples of the dryer: the valve, an hour of the board with a silent span, and bytes that a host lends.
-use super::cases::{reads, writes};
-use super::{lent, refused};
+use super::cases::{reads, refusal, span, writes};
+use super::told;
 use bus::refusal::Refusal;
+use dryer::control;
+use dryer::plant::Readings;
 use dryer::tally::Tally;
 use dryer_board::hour::Hour;
-use dryer_board::probes::Readings;
 use dryer_board::{board, hour};
-use span::span::Span;
 use span::spans::Spans;
 use std::test::Fail;
-use towers::control;
+use storage::lent;
 use towers::tower::Tower;
 
 #[test]
 fn the_valve_opens_by_moisture_up_to_100_percent_and_closes_when_hot(rt: HostRuntime) {
-    let table = [
+    for (moisture, temperature, opening) in [
         (0, 120, 0),
         (19, 120, 95),
         (20, 120, 100),
         (255, 0, 100),
         (20, 121, 0),
-    ];
-    for (moisture, temperature, opening) in table {
+    ] {
         assert_eq!(rt;
             control::opening(Ok(120), Ok(moisture), Ok(temperature)),
             opening
@@ -51,38 +50,32 @@ fn hour_with(silent: Spans) -> Hour {
 #[test]
 fn a_span_is_silent_for_one_tower_and_not_for_the_other(rt: HostRuntime) -> Result<(), Fail> {
     let moisture = Tower::One.moisture_at();
-    let span = Span {
-        first: moisture,
-        last: moisture,
-    };
-    let Ok(silent) = Spans::check(&[span]) else {
-        return Err(Fail::new("lawful spans were refused"));
-    };
+    let silent = Spans::check(&[span(moisture, moisture)])?;
     let limits = [120, 110];
     let mut logs = [0; 0x200];
     {
         let mut board = board::build(&mut logs, &limits);
         let mut tally = Tally::new();
-        assert_eq!(rt; refused(hour::set_up(&mut board)), (0, 0, 0));
+        assert_eq!(rt; told(hour::set_up(&mut board)), Ok(()));
         for (number, spans, one) in [
             (0, Spans::empty(), 60),
             (1, silent, 0),
             (2, Spans::empty(), 60),
         ] {
-            let played = hour::play_hour(&mut board, number, hour_with(spans), &mut tally);
-            assert_eq!(rt; refused(played.set), (0, 0, 0));
+            let played = hour::play_hour(&mut board, number, &hour_with(spans), &mut tally);
+            assert_eq!(rt; told(played.set), Ok(()));
             reads(&rt, &board, &[(0x202, Ok(one)), (0x302, Ok(70))]);
         }
-        assert_eq!(rt;
-            (tally.read, tally.written, tally.set, tally.refused),
-            (17, 11, 3, 1)
-        );
+        let counted = Tally {
+            read: 17,
+            written: 11,
+            set: 3,
+            refused: 1,
+        };
+        assert_eq!(rt; tally, counted);
     }
-    assert_eq!(rt; [logs[0], logs[1], logs[2], logs[3]], [12, 0, 12, 0]);
-    assert_eq!(rt;
-        [logs[0x100], logs[0x101], logs[0x102], logs[0x103]],
-        [14, 14, 14, 0]
-    );
+    assert_eq!(rt; &logs[..4], [12, 0, 12, 0].as_slice());
+    assert_eq!(rt; &logs[0x100..0x104], [14, 14, 14, 0].as_slice());
     Ok(())
 }
 
@@ -91,42 +84,46 @@ fn a_board_refuses_with_the_address_and_the_tag_of_the_cell(rt: HostRuntime) {
     let limits = [120, 110];
     let mut logs = [0; 0x200];
     let mut board = board::build(&mut logs, &limits);
-    assert_eq!(rt; refused(hour::set_up(&mut board)), (0, 0, 0));
+    assert_eq!(rt; told(hour::set_up(&mut board)), Ok(()));
     writes(
         &rt,
         &mut board,
         &[
-            (0x201, 1, Err((11, 0x201, 7))),
-            (0x301, 1, Err((11, 0x301, 8))),
-            (0xFF_8001, 1, Err((11, 0xFF_8001, 2))),
+            (0x201, 1, Err(refusal(11, 0x201, 7))),
+            (0x301, 1, Err(refusal(11, 0x301, 8))),
+            (0xFF_8001, 1, Err(refusal(11, 0xFF_8001, 2))),
         ],
     );
     reads(
         &rt,
         &board,
         &[
-            (0x220, Err((10, 0x220, 7))),
-            (0x320, Err((10, 0x320, 8))),
-            (0x1200, Err((10, 0x1200, 1))),
-            (0xFF_8002, Err((10, 0xFF_8002, 2))),
+            (0x220, Err(refusal(10, 0x220, 7))),
+            (0x320, Err(refusal(10, 0x320, 8))),
+            (0x1200, Err(refusal(10, 0x1200, 1))),
+            (0xFF_8002, Err(refusal(10, 0xFF_8002, 2))),
         ],
     );
 }
 
 #[test]
 fn a_board_has_room_for_its_memory_and_its_image(rt: HostRuntime) {
-    assert_eq!(rt; refused(board::check(0xFF_F000, 0x8000)), (0, 0, 0));
-    assert_eq!(rt; refused(board::check(0xFF_F001, 0x8000)), (4, 0, 0));
-    assert_eq!(rt; refused(board::check(0xFF_F000, 0x8001)), (4, 0, 0));
+    for (memory, image, expected) in [
+        (0xFF_F000, 0x8000, Ok(())),
+        (0xFF_F001, 0x8000, Err(refusal(4, 0, 0))),
+        (0xFF_F000, 0x8001, Err(refusal(4, 0, 0))),
+    ] {
+        assert_eq!(rt; told(board::check(memory, image)), expected);
+    }
 }
 
 #[test]
 fn a_write_to_lent_bytes_changes_one_of_them_or_none(rt: HostRuntime) {
     let mut bytes = [1, 2, 3];
-    assert_eq!(rt; refused(lent::write_lent(&mut bytes, 1, 9)), (0, 0, 0));
+    assert_eq!(rt; told(lent::write(&mut bytes, 0x1000, 1, 0x1001, 9)), Ok(()));
     assert_eq!(rt;
-        refused(lent::write_lent(&mut bytes, 3, 9)),
-        (10, 0x1003, 1)
+        told(lent::write(&mut bytes, 0x1000, 1, 0x1003, 9)),
+        Err(refusal(10, 0x1003, 1))
     );
     assert_eq!(rt; bytes, [1, 9, 3]);
 }

@@ -2,12 +2,14 @@
 #![tactic(auto)]
 
 ghost use Rattle.std.specs.Prelude.{◌≡◌};
-ghost use Rattle.bench.specs.Refused.{refused_by};
+ghost use Rattle.bench.specs.Reason.{reason_of, told_of};
 
 use bus::refusal::Refusal;
 
 #[cfg(test)]
 mod board_examples;
+#[cfg(test)]
+mod bus_examples;
 #[cfg(test)]
 mod cases;
 #[cfg(test)]
@@ -16,7 +18,6 @@ mod dryer_examples;
 mod edge_examples;
 #[cfg(test)]
 mod layer_examples;
-pub mod lent;
 #[cfg(test)]
 mod probe_examples;
 #[cfg(test)]
@@ -25,14 +26,33 @@ mod refusal_examples;
 mod span_examples;
 #[cfg(test)]
 mod storage_examples;
+#[cfg(test)]
+mod text_examples;
 pub mod through;
 
-// Number, address and tag of a refusal, all 0 where the call was done.
-pub fn refused<T: Drop>(answer: Result<T, Refusal>) -> (u8, u32, u8)
-    ensures { result ≡ refused_by answer }
-{
-    match answer {
-        Ok(_) => (0, 0, 0),
-        Err(refusal) => (refusal.number(), refusal.address(), refusal.tag()),
+// What a refusal tells its caller.
+#[derive(Clone, Copy, Debug, PartialEq, Eq)]
+pub struct Reason {
+    pub number: u8,
+    pub address: u32,
+    pub tag: u8,
+}
+
+impl From<Refusal> for Reason {
+    ghost from_gives = { λ refusal reason. reason ≡ reason_of refusal };
+
+    fn from(refusal: Refusal) -> Reason {
+        Reason {
+            number: refusal.number(),
+            address: refusal.address(),
+            tag: refusal.tag(),
+        }
     }
+}
+
+// The answer of a call, with a refusal as what it tells its caller.
+pub fn told<T>(answer: Result<T, Refusal>) -> Result<T, Reason>
+    ensures { result ≡ told_of answer }
+{
+    answer.map_err(Reason::from)
 }

@@ -1,67 +1,57 @@
 // Examples of spans: which numbers are taken, and which addresses lie inside.
-use super::refused;
+use super::cases::{refusal, span};
+use super::told;
 use bus::address::Address;
-use span::span::Span;
 use span::spans::Spans;
 use std::test::Fail;
 
-const NINE: [Span; 9] = [
-    Span { first: 0, last: 0 },
-    Span { first: 2, last: 2 },
-    Span { first: 4, last: 4 },
-    Span { first: 6, last: 6 },
-    Span { first: 8, last: 8 },
-    Span {
-        first: 10,
-        last: 10,
-    },
-    Span {
-        first: 12,
-        last: 12,
-    },
-    Span {
-        first: 14,
-        last: 14,
-    },
-    Span {
-        first: 16,
-        last: 0x100_0000,
-    },
-];
-
 #[test]
-fn spans_lie_in_ascending_order_and_apart(rt: HostRuntime) {
-    let cases = [
-        (0, 0xFF_FFFE, 0xFF_FFFF, 0xFF_FFFF, 0),
-        (5, 5, 6, 6, 0),
-        (5, 6, 6, 7, 2),
-        (6, 6, 5, 5, 2),
-        (5, 4, 6, 6, 2),
-        (0x100_0000, 0, 0, 0, 1),
-        (2, 1, 0x100_0000, 0, 2),
-        (1, 1, 0, 0x100_0000, 1),
-    ];
-    for (a, b, c, d, number) in cases {
-        let two = [Span { first: a, last: b }, Span { first: c, last: d }];
-        assert_eq!(rt; refused(Spans::check(&two)), (number, 0, 0));
+fn spans_lie_in_ascending_order_and_apart(rt: HostRuntime) -> Result<(), Fail> {
+    for two in [
+        [span(0, 0xFF_FFFE), span(0xFF_FFFF, 0xFF_FFFF)],
+        [span(5, 5), span(6, 6)],
+    ] {
+        assert_eq!(rt; Spans::check(&two)?.as_slice(), two.as_slice());
     }
+    for (first, second, number) in [
+        (span(5, 6), span(6, 7), 2),
+        (span(6, 6), span(5, 5), 2),
+        (span(5, 4), span(6, 6), 2),
+        (span(0x100_0000, 0), span(0, 0), 1),
+        (span(2, 1), span(0x100_0000, 0), 2),
+        (span(1, 1), span(0, 0x100_0000), 1),
+    ] {
+        assert_eq!(rt;
+            told(Spans::check(&[first, second])),
+            Err(refusal(number, 0, 0))
+        );
+    }
+    Ok(())
 }
 
 #[test]
-fn more_than_eight_are_refused_before_any_is_looked_at(rt: HostRuntime) {
-    assert_eq!(rt; refused(Spans::check(&NINE)), (2, 0, 0));
-    assert_eq!(rt; refused(Spans::check(&NINE[1..9])), (1, 0, 0));
-    assert_eq!(rt; refused(Spans::check(&NINE[0..8])), (0, 0, 0));
-    assert_eq!(rt; refused(Spans::check(&NINE[0..0])), (0, 0, 0));
+fn more_than_eight_are_refused_before_any_is_looked_at(rt: HostRuntime) -> Result<(), Fail> {
+    let nine = [
+        span(0, 0),
+        span(2, 2),
+        span(4, 4),
+        span(6, 6),
+        span(8, 8),
+        span(10, 10),
+        span(12, 12),
+        span(14, 14),
+        span(16, 0x100_0000),
+    ];
+    assert_eq!(rt; told(Spans::check(&nine)), Err(refusal(2, 0, 0)));
+    assert_eq!(rt; told(Spans::check(&nine[1..9])), Err(refusal(1, 0, 0)));
+    assert_eq!(rt; Spans::check(&nine[0..8])?.as_slice(), &nine[0..8]);
+    assert_eq!(rt; told(Spans::check(&nine[0..0])), Ok(Spans::empty()));
+    Ok(())
 }
 
 #[test]
 fn first_and_last_address_are_inside(rt: HostRuntime) -> Result<(), Fail> {
-    let two = [Span { first: 3, last: 4 }, Span { first: 8, last: 8 }];
-    let Ok(spans) = Spans::check(&two) else {
-        return Err(Fail::new("lawful spans were refused"));
-    };
-    let list = spans.list();
+    let spans = Spans::check(&[span(3, 4), span(8, 8)])?;
     for (address, inside) in [
         (2, false),
         (3, true),
@@ -71,7 +61,15 @@ fn first_and_last_address_are_inside(rt: HostRuntime) -> Result<(), Fail> {
         (8, true),
         (9, false),
     ] {
-        assert_eq!(rt; list.contains(Address::wrapping(address)), inside);
+        assert_eq!(rt; spans.contains(Address::wrapping(address)), inside);
     }
+    Ok(())
+}
+
+#[test]
+fn spans_are_shown_as_they_were_given(rt: HostRuntime) -> Result<(), Fail> {
+    assert_eq!(rt; Spans::empty().as_slice(), [].as_slice());
+    let all = [span(0, 0xFF_FFFF)];
+    assert_eq!(rt; Spans::check(&all)?.as_slice(), all.as_slice());
     Ok(())
 }
