@@ -157,3 +157,19 @@ fn a_probe_register_is_set_under_a_stack_of_layers(rt: HostRuntime) {
     );
     reads(&rt, &bus.below.high.low, &[(0x101, Ok(77))]);
 }
+
+#[test]
+fn the_same_spans_are_set_twice(rt: HostRuntime) -> Result<(), Fail> {
+    let bytes = [1, 2, 3];
+    let middle = Spans::check(&[span(1, 1)])?;
+    let mut bus = Hush::new(40, Image::new(0, 10, &bytes));
+    for (spans, expected) in [
+        (middle, Err(refusal(10, 1, 40))),
+        (Spans::empty(), Ok(2)),
+        (middle, Err(refusal(10, 1, 40))),
+    ] {
+        bus.set_spans(spans);
+        reads(&rt, &bus, &[(0, Ok(1)), (1, expected)]);
+    }
+    Ok(())
+}

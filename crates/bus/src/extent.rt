@@ -28,10 +28,6 @@ impl Extent {
         ensures { result ≡ offset_in self.base self.length address.value }
     {
         let offset = u32::from(address).checked_sub(self.base)? as usize;
-        if offset < self.length {
-            Some(offset)
-        } else {
-            None
-        }
+        (offset < self.length).then_some(offset)
     }
 }

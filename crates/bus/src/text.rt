@@ -1,6 +1,6 @@
 // What is printed of an address and of a refusal.
 ghost use Rattle.std.specs.Prelude.{◌≡◌, Some};
-ghost use Rattle.bus.specs.Text.{hex_text, fault_ground, ground, refusal_text};
+ghost use Rattle.bus.specs.Text.{hex_text, fault_ground, refusal_ground, refusal_text};
 
 use super::refusal::{Fault, Refusal};
 use std::error::Error;
@@ -37,7 +37,7 @@ impl fmt::Display for Fault {
 struct Ground(Refusal);
 
 impl fmt::Display for Ground {
-    ghost output = { λ it. Some (ground it.0) };
+    ghost output = { λ it. Some (refusal_ground it.0) };
 
     fn fmt<W: fmt::Write>(&self, f: &mut fmt::Formatter<W>) -> fmt::Result {
         match self.0 {

@@ -16,11 +16,11 @@ abbrev pub more : ℕ → ℕ
 more n = min (n + 1) (2 ^ 32 - 1)
 
 -- a call that was refused is one more refused, and one that was done one more of its kind
-abbrev pub counted : {A : Type 0} → Call → Result A Refusal → Tally → Tally
-counted call (Err e) t = record { read = t.read; written = t.written; set = t.set; refused = more t.refused }
-counted Read (Ok x) t = record { read = more t.read; written = t.written; set = t.set; refused = t.refused }
-counted Write (Ok x) t = record { read = t.read; written = more t.written; set = t.set; refused = t.refused }
-counted Set (Ok x) t = record { read = t.read; written = t.written; set = more t.set; refused = t.refused }
+abbrev pub with_call : {A : Type 0} → Call → Result A Refusal → Tally → Tally
+with_call call (Err e) t = record { read = t.read; written = t.written; set = t.set; refused = more t.refused }
+with_call Read (Ok x) t = record { read = more t.read; written = t.written; set = t.set; refused = t.refused }
+with_call Write (Ok x) t = record { read = t.read; written = more t.written; set = t.set; refused = t.refused }
+with_call Set (Ok x) t = record { read = t.read; written = t.written; set = more t.set; refused = t.refused }
 
 -- a call is counted once, while the counts have room
 abbrev pub CountedOnce : Tally → Tally → Type 0

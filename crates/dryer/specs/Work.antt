@@ -14,7 +14,7 @@ use Rattle.dryer.specs.declared.work.Worked.{Worked}
 use Rattle.dryer.specs.Control.{commanded, controlled}
 use Rattle.dryer.specs.Log.{note_answer, logged}
 use Rattle.dryer.specs.Plant.{with_hour}
-use Rattle.dryer.specs.Tally.{counted}
+use Rattle.dryer.specs.Tally.{with_call}
 
 -- where the probe bank lies, and what its first registers are
 abbrev pub probes_at : ℕ
@@ -33,8 +33,8 @@ abbrev pub places : Places
 places = record { moisture = moisture_at; temperature = temperature_at; valve = valve_at }
 
 -- the temperature above which the valve is closed
-abbrev pub limit : Result ℕ Refusal
-limit = Ok 120
+abbrev pub max_temperature : Result ℕ Refusal
+max_temperature = Ok 120
 
 -- the cells that the control finds, once the host has set the readings
 abbrev pub seen : Hour → ProbeBank → Cells
@@ -42,7 +42,7 @@ seen hour bank = bank_cells (with_hour hour bank)
 
 -- what the valve is set to
 abbrev pub valve_set : Cells → ℕ
-valve_set = commanded places limit
+valve_set = commanded places max_temperature
 
 -- there is a call only where something was read
 abbrev pub note_of : Result ℕ Refusal → Result (Unit {0}) Refusal → Option (Result (Unit {0}) Refusal)
@@ -50,7 +50,7 @@ note_of (Ok moisture) answer = Some answer
 note_of (Err e) answer = None
 
 abbrev pub worked : ℕ → Cells → List ℕ → Worked
-worked number m log = record { readings = Ok tt; round = controlled places limit m; noted = note_of (read_answer m moisture_at) (note_answer log number) }
+worked number m log = record { readings = Ok tt; round = controlled places max_temperature m; noted = note_of (read_answer m moisture_at) (note_answer log number) }
 
 abbrev pub log_with : Result ℕ Refusal → List ℕ → ℕ → List ℕ
 log_with (Ok moisture) log number = logged log number moisture
@@ -61,11 +61,11 @@ log_after number m log = log_with (read_answer m moisture_at) log number
 
 abbrev pub with_note : Option (Result (Unit {0}) Refusal) → Tally → Tally
 with_note None t = t
-with_note (Some answer) t = counted Write answer t
+with_note (Some answer) t = with_call Write answer t
 
 -- every call of the hour counted
 abbrev pub tally_after : Worked → Tally → Tally
-tally_after w t = with_note w.noted (counted Write w.round.valve (counted Read w.round.temperature (counted Read w.round.moisture (counted Set w.readings t))))
+tally_after w t = with_note w.noted (with_call Write w.round.valve (with_call Read w.round.temperature (with_call Read w.round.moisture (with_call Set w.readings t))))
 
 -- where the moisture probe is silent, nothing is logged and the valve is closed, if its cell can be written at all
 abbrev pub HoldsNoReading : Cells → Cells → List ℕ → List ℕ → Type 0

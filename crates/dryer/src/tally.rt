@@ -1,6 +1,6 @@
 // How many calls were done, by what they did, and how many were refused.
 ghost use Rattle.std.specs.Prelude.{◌≡◌};
-ghost use Rattle.dryer.specs.Tally.{none, all, more, counted, CountedOnce};
+ghost use Rattle.dryer.specs.Tally.{none, all, more, with_call, CountedOnce};
 
 use bus::refusal::Refusal;
 
@@ -36,7 +36,7 @@ impl Tally {
 
     // Counts a call by what it answered.
     pub fn count<T>(&mut self, call: Call, answer: &Result<T, Refusal>)
-        ensures tally { self.new ≡ counted call answer.now self.old }
+        ensures tally { self.new ≡ with_call call answer.now self.old }
         ensures once { CountedOnce self.old self.new }
     {
         match (call, answer) {

@@ -52,6 +52,7 @@ pub fn work_hour(
     tally.count(Call::Read, &round.moisture);
     tally.count(Call::Read, &round.temperature);
     tally.count(Call::Write, &round.valve);
+    // A closure under `map` would hide from the proof what it does to the log and to the tally.
     let noted = match round.moisture {
         Ok(moisture) => {
             let answer = log::note(log, number, moisture);

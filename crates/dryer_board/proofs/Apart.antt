@@ -36,13 +36,15 @@ closed t number m silent =
 not_noted : (t : Tower) (number : ℕ) (m : Cells) → kind_of (m (moisture_at t)) ≡ Silent → (hour_answers t number m).noted ≡ None
 not_noted t number m silent = (no_reading t number m (after_hour t number m) (hour_answers t number m) refl refl silent).0
 
-pub silence : (t : Tower) (number : ℕ) (hour : Hour) (board : BoardBus) (w : HourAnswers) (after : Cells) → w ≡ hour_answers t number (found hour board) → EachAlone number (found hour board) after → Silence t number hour board w after
-silence t number hour board w after heard alone =
+-- m: the cells once the hour is set, from which the towers worked
+pub silence : (t : Tower) (number : ℕ) (hour : Hour) (board : BoardBus) (w : HourAnswers) (m after : Cells) → m ≡ found hour board → w ≡ hour_answers t number m → EachAlone number m after → Silence t number hour board w after
+silence t number hour board w m after set heard alone =
     record {
       outside = λ free.
-          let same : (a : ℕ) → own t number a ≡ true → found hour board a ≡ unhushed hour board a = λ a mine. uncovered hour board a (free a mine) in
-          (heard ∙ same_answers t number (found hour board) (unhushed hour board) same, λ a mine. alone t a mine ∙ same_after t number (found hour board) (unhushed hour board) same a mine);
+          let same : (a : ℕ) → own t number a ≡ true → m a ≡ unhushed hour board a = λ a mine. ap (λ (f : Cells). f a) set ∙ uncovered hour board a (free a mine) in
+          (heard ∙ same_answers t number m (unhushed hour board) same, λ a mine. alone t a mine ∙ same_after t number m (unhushed hour board) same a mine);
       inside = λ covers.
-          let silent = silenced hour board (moisture_at t) covers in
-          (ap (λ (x : HourAnswers). x.noted) heard ∙ not_noted t number (found hour board) silent, alone t (valve_at t) (own_valve t number) ∙ closed t number (found hour board) silent);
+          let here : (a : ℕ) → m a ≡ found hour board a = λ a. ap (λ (f : Cells). f a) set in
+          let silent : kind_of (m (moisture_at t)) ≡ Silent = ap kind_of (here (moisture_at t)) ∙ silenced hour board (moisture_at t) covers in
+          (ap (λ (x : HourAnswers). x.noted) heard ∙ not_noted t number m silent, alone t (valve_at t) (own_valve t number) ∙ closed t number m silent ∙ ap (written 0) (here (valve_at t)));
     }

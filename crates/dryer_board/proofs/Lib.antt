@@ -1,3 +1,2 @@
 mod Apart
 mod Built
-mod Reach

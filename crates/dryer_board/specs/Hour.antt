@@ -12,7 +12,7 @@ use Rattle.towers.specs.declared.tower.Tower.{Tower}
 use Rattle.towers.specs.declared.tower.Tower.TheVariants.{One, Two}
 use Rattle.towers.specs.declared.work.HourAnswers.{HourAnswers}
 use Rattle.dryer.specs.declared.tally.Call.TheVariants.{Set}
-use Rattle.dryer.specs.Tally as calls
+use Rattle.dryer.specs.Tally.{with_call}
 use Rattle.towers.specs.Tower.{moisture_at, temperature_at, valve_at, own}
 use Rattle.towers.specs.Work.{hour_answers, after_hour, both_answers, counted_both}
 use Rattle.dryer_board.specs.declared.hour.Hour.{Hour}
@@ -60,7 +60,7 @@ board_answers number m = record { set = Ok tt; towers = both_answers number m }
 
 -- every call counted: the setting, and those of the towers
 abbrev pub counted_all : BoardAnswers → Tally → Tally
-counted_all p tally = counted_both p.towers (calls.counted Set p.set tally)
+counted_all p tally = counted_both p.towers (with_call Set p.set tally)
 
 -- What silent spans mean to a tower. If none of its own cells lies in one, it gets the answers and leaves its own cells as it would without spans.
 -- If its moisture probe does, it logs nothing and its valve is closed, if that cell can be written at all.

@@ -8,7 +8,9 @@ use bus::extent::Extent;
 pub use host::{a_setting_changes_one_register_at_most, cells_and_shape_determine_a_bank};
 
 // How many registers a bank has.
-pub const REGISTERS: usize = 32;
+pub const REGISTERS: u32 = 32;
+
+const PLACES: usize = REGISTERS as usize;
 
 #[derive(Clone, Copy, Debug, Default, PartialEq, Eq)]
 pub enum Direction {
@@ -23,7 +25,7 @@ pub enum Direction {
 #[derive(Clone, Copy, Debug, Default, PartialEq, Eq)]
 pub struct Register {
     pub direction: Direction,
-    // Where it does not answer, the cell is silent.
+    // Where it does not answer, the cell is silent. The byte stays, so it is no `Option`.
     pub answering: bool,
     pub byte: u8,
 }
@@ -32,7 +34,7 @@ pub struct Register {
 pub struct ProbeBank {
     base: u32,
     tag: u8,
-    registers: [Register; REGISTERS],
+    registers: [Register; PLACES],
 }
 
 // Where a bank has its registers.
@@ -41,6 +43,6 @@ fn extent(base: u32) -> Extent
 {
     Extent {
         base,
-        length: REGISTERS,
+        length: PLACES,
     }
 }

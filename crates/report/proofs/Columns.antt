@@ -3,7 +3,7 @@ use Rattle.std.proofs.Common.{◌≡◌, refl, ℕ, zero, suc, ◌-◌, ◌^◌,
 use Rattle.std.proofs.Padding.{take_chars_all, repeat_ascii}
 use Rattle.std.specs.Fmt.{char_count, format_spec, padded, styled_text}
 use Rattle.report.specs.Words.{column}
-use borrow.Author.Tests.{ne_eqb}
+use Rattle.std.proofs.lemmas.Bool.{ne_eqb}
 
 padded_column : (width : ℕ) (text : List ℕ) → length text < 2 ^ 64
     → padded (format_spec 32 1 0 width (2 ^ 64 - 1)) text ≡ column width text

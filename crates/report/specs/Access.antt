@@ -14,12 +14,12 @@ call_of (Read answer) = calls.Read
 call_of (Write byte answer) = calls.Write
 
 -- the byte that was read or written, unless the call was refused
-abbrev pub byte_of : Access → Result ℕ Refusal
-byte_of (Read answer) = answer
-byte_of (Write byte (Ok done)) = Ok byte
-byte_of (Write byte (Err refusal)) = Err refusal
+abbrev pub byte_told : Access → Result ℕ Refusal
+byte_told (Read answer) = answer
+byte_told (Write byte (Ok done)) = Ok byte
+byte_told (Write byte (Err refusal)) = Err refusal
 
 -- what the call does, at which address, what is there, in a column of this width, and the byte or the refusal
 abbrev pub access_text : ℕ → List ℕ → ℕ → Access → List ℕ
 access_text width what address access =
-    lead (call_of access) ++ (hex_text address ++ (codes " " ++ (column width what ++ (codes " " ++ outcome (byte_of access)))))
+    lead (call_of access) ++ (hex_text address ++ (codes " " ++ (column width what ++ (codes " " ++ outcome (byte_told access)))))

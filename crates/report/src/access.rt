@@ -1,9 +1,10 @@
 // A read or a write, and its line.
 ghost use Rattle.std.specs.Prelude.{◌≡◌, Some, OnOk, OnErr};
-ghost use Rattle.dryer.specs.Tally.{counted};
+ghost use Rattle.dryer.specs.Tally.{with_call};
 ghost use Rattle.report.specs.declared.access.Access.TheVariants.{Read, Write};
-ghost use Rattle.report.specs.Access.{call_of, byte_of, access_text};
+ghost use Rattle.report.specs.Access.{call_of, byte_told, access_text};
 
+use super::print_and_count;
 use super::words::{Column, Lead, Outcome};
 use bus::refusal::Refusal;
 use bus::text::Hex;
@@ -35,7 +36,7 @@ impl Access {
 
     // The byte that was read or written, unless the call was refused.
     pub fn byte(self) -> Result<u8, Refusal>
-        ensures { result ≡ byte_of self }
+        ensures { result ≡ byte_told self }
     {
         match self {
             Access::Read { answer } => answer,
@@ -75,12 +76,10 @@ impl<'a, const WIDTH: usize> Line<'a, WIDTH> {
 
     // Prints the line, and counts the call once it is printed.
     pub fn print_and_count(&self, rt: &impl Print, tally: &mut Tally) -> io::Result<()>
-        ensures ok { OnOk result (tally.new ≡ counted (call_of self.now.access) (byte_of self.now.access) tally.old) }
+        ensures ok { OnOk result (tally.new ≡ with_call (call_of self.now.access) (byte_told self.now.access) tally.old) }
         ensures err { OnErr result (tally.new ≡ tally.old) }
     {
-        println!(rt; "{self}")?;
-        tally.count(self.access.call(), &self.access.byte());
-        Ok(())
+        print_and_count(self, self.access.call(), &self.access.byte(), rt, tally)
     }
 }
 

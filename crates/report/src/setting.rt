@@ -1,9 +1,10 @@
 // A setting by the host, and its line.
 ghost use Rattle.std.specs.Prelude.{◌≡◌, Some, OnOk, OnErr};
 ghost use Rattle.dryer.specs.declared.tally.Call.TheVariants.{Set};
-ghost use Rattle.dryer.specs.Tally.{counted};
+ghost use Rattle.dryer.specs.Tally.{with_call};
 ghost use Rattle.report.specs.Setting.{refusal_part, setting_text};
 
+use super::print_and_count;
 use super::words::Lead;
 use bus::refusal::Refusal;
 use dryer::tally::{Call, Tally};
@@ -19,12 +20,10 @@ pub struct Setting<T> {
 impl<T: fmt::Display> Setting<T> {
     // Prints the line, and counts the call once it is printed.
     pub fn print_and_count(&self, rt: &impl Print, tally: &mut Tally) -> io::Result<()>
-        ensures ok { OnOk result (tally.new ≡ counted Set self.now.answer tally.old) }
+        ensures ok { OnOk result (tally.new ≡ with_call Set self.now.answer tally.old) }
         ensures err { OnErr result (tally.new ≡ tally.old) }
     {
-        println!(rt; "{self}")?;
-        tally.count(Call::Set, &self.answer);
-        Ok(())
+        print_and_count(self, Call::Set, &self.answer, rt, tally)
     }
 }
 

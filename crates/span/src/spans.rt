@@ -13,7 +13,8 @@ pub const MAX_SPANS: usize = 8;
 
 const UNUSED: Span = Span { first: 0, last: 0 };
 
-// Contracts see spans as the list of them. The first `count` places of the table hold it, and the others are unused.
+// Contracts see spans as the list of them. The first `count` places of the table hold it, and the others are unused; nothing here allocates, and
+// spans are copied.
 #[derive(Clone, Copy, Debug, PartialEq, Eq)]
 pub struct Spans {
     table: [Span; MAX_SPANS],

@@ -17,7 +17,7 @@ pub fn write(bytes: &mut [u8], base: u32, tag: u8, address: u32, byte: u8) -> Re
     write_any(&mut memory, address, byte)
 }
 
-// Writes a byte to any bus: of the memory it promises the cells and the shape alone.
+// Code over any bus, to which the memory is lent: it promises its cells and its shape alone.
 fn write_any<B: Bus>(bus: &mut B, address: u32, byte: u8) -> Result<(), Refusal>
     ensures answer { result ≡ write_answer (B.Bus.cells bus.old) address }
     ensures after { B.Bus.cells bus.new ≡ put (B.Bus.cells bus.old) address byte }

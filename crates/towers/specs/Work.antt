@@ -12,7 +12,7 @@ use Rattle.towers.specs.declared.work.BothAnswers.{BothAnswers}
 use Rattle.towers.specs.Tower.{moisture_at, valve_at, log_at, writes, own}
 use Rattle.towers.specs.Control.{controlled, regulated}
 use Rattle.dryer.specs.declared.tally.Call.TheVariants.{Read, Write}
-use Rattle.dryer.specs.Tally as calls
+use Rattle.dryer.specs.Tally.{with_call}
 use Rattle.dryer.specs.Work.{note_of, with_note}
 
 abbrev pub hour_answers : Tower → ℕ → Cells → HourAnswers
@@ -29,7 +29,7 @@ after_hour t hour m = put_read (read_answer m (moisture_at t)) (log_at t hour) (
 
 -- every call of the hour counted
 abbrev pub counted : HourAnswers → Tally → Tally
-counted w tally = with_note w.noted (calls.counted Write w.round.valve (calls.counted Read w.round.temperature (calls.counted Read w.round.moisture (calls.counted Read w.round.limit tally))))
+counted w tally = with_note w.noted (with_call Write w.round.valve (with_call Read w.round.temperature (with_call Read w.round.moisture (with_call Read w.round.limit tally))))
 
 -- each of two towers gets the answers that it would get alone on the bus, since neither writes a cell of the other
 abbrev pub both_answers : ℕ → Cells → BothAnswers

@@ -67,6 +67,7 @@ fn note<B: Bus>(
     ensures kept { B.Bus.shape bus.new ≡ B.Bus.shape bus.old }
     ensures tally { tally.new ≡ with_note result tally.old }
 {
+    // A closure under `map` would hide from the proof what it does to the bus and to the tally.
     match reading {
         Ok(byte) => {
             let answer = bus.write(address, byte);

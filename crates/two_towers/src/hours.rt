@@ -112,17 +112,14 @@ impl Planned {
 
 // What the host set for an hour.
 #[derive(Clone, Copy, Debug, PartialEq, Eq)]
-struct Both {
-    one: Measured,
-    two: Measured,
-}
+struct Measurements<'a>(&'a Hour);
 
-impl fmt::Display for Both {
+impl fmt::Display for Measurements<'_> {
     fn fmt<W: fmt::Write>(&self, f: &mut fmt::Formatter<W>) -> fmt::Result {
         let first = Named(Tower::One);
         let second = Named(Tower::Two);
-        let one = self.one;
-        let two = self.two;
+        let one = Measured(self.0.one);
+        let two = Measured(self.0.two);
         write!(f, "{first}: {one}; {second}: {two}")
     }
 }
@@ -158,10 +155,7 @@ pub(crate) fn print(
 ) -> io::Result<()> {
     rt.println(Header { number, hour })?;
     rt.println(Setting {
-        what: Both {
-            one: Measured(hour.one),
-            two: Measured(hour.two),
-        },
+        what: Measurements(hour),
         answer: played.set,
     })?;
     print_tower(rt, Tower::One, number, played.towers.one)?;

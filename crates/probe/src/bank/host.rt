@@ -4,7 +4,7 @@ ghost use Rattle.std.specs.Fn.{FnOnceReturnsAtMut};
 ghost use Rattle.bus.specs.Extent.{fits};
 ghost use Rattle.probe.specs.Bank.{new_bank, bank_cells, silent_cells, BankDetermined, OneRegister, in_bank, register_of, with_register, with_direction, with_answering, with_byte, replaced};
 
-use super::{Direction, ProbeBank, REGISTERS, Register, extent};
+use super::{Direction, PLACES, ProbeBank, Register, extent};
 use bus::refusal::Refusal;
 
 impl ProbeBank {
@@ -23,7 +23,7 @@ impl ProbeBank {
         ProbeBank {
             base,
             tag,
-            registers: [Register::default(); REGISTERS],
+            registers: [Register::default(); PLACES],
         }
     }
 
@@ -46,7 +46,7 @@ impl ProbeBank {
         ensures err { OnErr result (self.new ≡ self.old) }
     {
         let place = number as usize;
-        if place >= REGISTERS {
+        if place >= PLACES {
             return Err(Refusal::OutOfRange);
         }
         change(&mut self.registers[place]);

@@ -4,16 +4,12 @@ use Rattle.towers.proofs.Silence.{no_reading}
 use Rattle.towers.proofs.Own.{own_cells}
 use Rattle.towers.proofs.work.work_hour.Goals as goal
 
-pub returns : goal.returns
-returns g c =
-    let before = g.B.Bus.cells c.args.bus.now in
-    let after = g.B.Bus.cells c.note-noted.new.bus in
+pub returns-clause-safe : goal.returns-clause-safe
+returns-clause-safe g c =
     let answer : HourAnswers = record { round = c.control-round.result; noted = c.note-noted.result } in
-    record {
-      answer = search rules;
-      after = search rules;
-      kept = search rules;
-      tally = search rules;
-      safe = no_reading c.args.tower c.args.hour before after answer (search rules) (search rules);
-      alone = own_cells c.args.tower c.args.hour before after answer (search rules) (search rules);
-    }
+    no_reading c.args.tower c.args.hour (g.B.Bus.cells c.args.bus.now) (g.B.Bus.cells c.note-noted.new.bus) answer (search rules) (search rules)
+
+pub returns-clause-alone : goal.returns-clause-alone
+returns-clause-alone g c =
+    let answer : HourAnswers = record { round = c.control-round.result; noted = c.note-noted.result } in
+    own_cells c.args.tower c.args.hour (g.B.Bus.cells c.args.bus.now) (g.B.Bus.cells c.note-noted.new.bus) answer (search rules) (search rules)

@@ -3,6 +3,6 @@ use Rattle.bus.specs.Address.{at}
 use Rattle.bus.proofs.Addresses.{same_number}
 use Rattle.bus.proofs.address.Address.wrapping.Goals as goal
 
-pub returns : goal.returns
+pub returns-clause-address : goal.returns-clause-address
 unfolding at
-returns c = record { address = search (rules, same_number); value = search rules }
+returns-clause-address c = search (rules, same_number)
