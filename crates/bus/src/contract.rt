@@ -11,7 +11,8 @@ pub trait Bus {
     // The cell at each address: the whole meaning of a bus.
     ghost cells: { Self → Cells };
 
-    // All that a bus holds and its cells do not show. No call changes it.
+    // All that a bus holds and its cells do not show. No call changes it; that relates the bus before a call and after it, so a clause says it and
+    // no invariant.
     ghost shape: { Self → Shape };
 
     // The cell at an address.

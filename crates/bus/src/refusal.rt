@@ -94,7 +94,7 @@ impl Refusal {
         }
     }
 
-    // The number of the fault's address, 0 for any other refusal.
+    // The number of the fault's address, 0 for any other refusal. What a host is told of a refusal is three numbers, so none of them is an `Option`.
     pub fn address(self) -> u32
         ensures { result ≡ refusal_address self }
     {

@@ -32,6 +32,7 @@ pub struct Worked {
     pub noted: Option<Result<(), Refusal>>,
 }
 
+// Unlike an hour of `towers`, it sets the bank and logs beside the bus; the control and the tally are the same.
 pub fn work_hour(
     number: u8,
     hour: Hour,

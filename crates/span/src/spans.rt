@@ -49,7 +49,7 @@ impl Spans {
         }
     }
 
-    // Tests the numbers of spans, and answers them as spans that keep the rule.
+    // Tests the numbers of spans, and answers them as spans that keep the rule. It is no `TryFrom`: the test before a making is `check` for every bus.
     pub fn check(spans: &[Span]) -> Result<Spans, Refusal>
         ensures answer { result ≡ passed (spans_answer spans.now) (Ok spans.now) }
         ensures rule { OkExactly result (Ascending spans.now) }

@@ -18,6 +18,7 @@ pub struct HourAnswers {
     pub noted: Option<Result<(), Refusal>>,
 }
 
+// The bus and the tally are lent side by side: of a struct of the two loans every contract would have to say what each ends as.
 pub fn work_hour<B: Bus>(bus: &mut B, tower: Tower, hour: u8, tally: &mut Tally) -> HourAnswers
     ensures answer { result ≡ hour_answers tower hour (B.Bus.cells bus.old) }
     ensures after { B.Bus.cells bus.new ≡ after_hour tower hour (B.Bus.cells bus.old) }

@@ -38,7 +38,7 @@ impl ProbeBank {
             .ok_or(Refusal::OutOfRange)
     }
 
-    // Changes one register.
+    // Changes one register. A host gives any number and is refused with 4, so the number of a register is no type of its own.
     fn set<F: FnOnce(&mut Register)>(&mut self, number: u32, change: F) -> Result<(), Refusal>
         requires { F.IsAlwaysCallable change }
         ensures answer { result ≡ in_bank number (Ok tt) }
