@@ -1,5 +1,7 @@
 // What a bus owes. Whoever adds a bus implements `Bus` and proves exactly this of it.
-ghost use Rattle.std.specs.Prelude.{◌≡◌, ℕ, OnErr};
+ghost use Rattle.std.specs.Prelude.{◌≡◌, ◌≢◌, ℕ, OnErr};
+ghost use Rattle.bus.specs.declared.cell.Kind.TheVariants.{Open};
+ghost use Rattle.bus.specs.Cell.{kind_of};
 ghost use Rattle.bus.specs.Meaning.{WholeMeaning};
 ghost use Rattle.bus.specs.Contract.{Cells, Shape, kind_answer, read_answer, write_answer, put, OneByte};
 
@@ -19,10 +21,13 @@ pub trait Bus {
     fn cell(&self, address: Address) -> Cell
         ensures { result ≡ cells self.now address.value };
 
-    // Puts the byte into the cell if it is open, and leaves any other as it is.
-    fn store(&mut self, address: Address, byte: u8)
+    // Puts the byte into the cell if it is open, and leaves the whole bus as it was if it is not. Answers the cell that was there, so that a write goes
+    // down through the layers once.
+    fn store(&mut self, address: Address, byte: u8) -> Cell
+        ensures was { result ≡ cells self.old address.value }
         ensures after { cells self.new ≡ put (cells self.old) address.value byte }
-        ensures kept { shape self.new ≡ shape self.old };
+        ensures kept { shape self.new ≡ shape self.old }
+        ensures untouched { (kind_of result ≢ Open) → self.new ≡ self.old };
 
     // Which kind the cell is of.
     fn kind(&self, address: u32) -> Result<Kind, Refusal>
@@ -48,9 +53,7 @@ pub trait Bus {
         ensures untouched { OnErr result (self.new ≡ self.old) }
     {
         let address = Address::try_from(address)?;
-        self.cell(address).check_write(address)?;
-        self.store(address, byte);
-        Ok(())
+        self.store(address, byte).check_write(address)
     }
 }
 

@@ -1,5 +1,6 @@
 // Hush: cells inside its spans are silent with its own tag, the others are those of the bus below.
 ghost use Rattle.std.specs.Prelude.{◌≡◌, []};
+ghost use Rattle.bus.specs.declared.cell.Cell.TheVariants.{Silent};
 ghost use Rattle.layers.specs.Hush.{hushed, hush_cells, hush_shape};
 
 use bus::address::Address;
@@ -35,6 +36,13 @@ impl<B: Bus> Hush<B> {
     {
         self.spans = spans;
     }
+
+    // The cell at each address inside the spans.
+    fn silent(&self) -> Cell
+        ensures { result ≡ Silent self.now.tag }
+    {
+        Cell::Silent { tag: self.tag }
+    }
 }
 
 impl<B: Bus> Bus for Hush<B> {
@@ -44,15 +52,17 @@ impl<B: Bus> Bus for Hush<B> {
 
     fn cell(&self, address: Address) -> Cell {
         if self.spans.contains(address) {
-            Cell::Silent { tag: self.tag }
+            self.silent()
         } else {
             self.below.cell(address)
         }
     }
 
-    fn store(&mut self, address: Address, byte: u8) {
-        if !self.spans.contains(address) {
-            self.below.store(address, byte);
+    fn store(&mut self, address: Address, byte: u8) -> Cell {
+        if self.spans.contains(address) {
+            self.silent()
+        } else {
+            self.below.store(address, byte)
         }
     }
 }

@@ -64,11 +64,11 @@ impl<L: Bus, R: Bus> Bus for Join<L, R> {
         }
     }
 
-    fn store(&mut self, address: Address, byte: u8) {
+    fn store(&mut self, address: Address, byte: u8) -> Cell {
         if self.is_low(address) {
-            self.low.store(address, byte);
+            self.low.store(address, byte)
         } else {
-            self.high.store(address, byte);
+            self.high.store(address, byte)
         }
     }
 }

@@ -54,8 +54,8 @@ impl<B: Bus> Bus for Shift<B> {
         self.below.cell(self.target(address))
     }
 
-    fn store(&mut self, address: Address, byte: u8) {
+    fn store(&mut self, address: Address, byte: u8) -> Cell {
         let target = self.target(address);
-        self.below.store(target, byte);
+        self.below.store(target, byte)
     }
 }

@@ -53,7 +53,9 @@ impl Bus for Image<'_> {
     }
 
     // No cell of an image is open.
-    fn store(&mut self, _address: Address, _byte: u8) {}
+    fn store(&mut self, address: Address, _byte: u8) -> Cell {
+        self.cell(address)
+    }
 }
 
 // An image holds nothing beside its cells and its shape: another with the same has the same numbers and bytes.

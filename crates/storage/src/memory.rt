@@ -58,10 +58,12 @@ impl Bus for Memory<'_> {
         }
     }
 
-    fn store(&mut self, address: Address, byte: u8) {
+    fn store(&mut self, address: Address, byte: u8) -> Cell {
+        let old = self.cell(address);
         if let Some(offset) = self.offset(address) {
             self.bytes[offset] = byte;
         }
+        old
     }
 }
 

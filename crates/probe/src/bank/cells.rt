@@ -34,12 +34,14 @@ impl Bus for ProbeBank {
         }
     }
 
-    fn store(&mut self, address: Address, byte: u8) {
+    fn store(&mut self, address: Address, byte: u8) -> Cell {
+        let old = self.cell(address);
         if let Some(number) = extent(self.base).offset(address) {
             let register = &mut self.registers[number];
-            if register.cell(self.tag).kind() == Kind::Open {
+            if old.kind() == Kind::Open {
                 register.byte = byte;
             }
         }
+        old
     }
 }
