@@ -1,6 +1,6 @@
 // The lines of a tower's work in an hour.
-ghost use Rattle.std.specs.Prelude.{Some};
-ghost use Rattle.report.specs.Tower.{log_text, work_text};
+ghost use Rattle.std.specs.Prelude.{◌≡◌, [], ◌∷◌, Some};
+ghost use Rattle.report.specs.Tower.{log_text, work_text, line_texts, log_lines, work_lines, joined};
 
 use super::access::Line;
 use bus::refusal::Refusal;
@@ -14,6 +14,36 @@ pub struct Work<const WIDTH: usize> {
     pub log_at: u32,
     pub round: Round,
     pub noted: Option<Result<(), Refusal>>,
+}
+
+impl<const WIDTH: usize> Work<WIDTH> {
+    // Its lines in their order, of which `Display` is the whole text. A program prints them one at a time, so that those before a print that fails are
+    // out.
+    pub fn lines(&self) -> [Option<Line<'static, WIDTH>>; 4]
+        ensures lines { line_texts WIDTH result ≡ work_lines WIDTH self.now }
+        ensures text { joined (work_lines WIDTH self.now) ≡ work_text WIDTH self.now }
+    {
+        let at = self.at;
+        let round = self.round;
+        [
+            Some(Line::read("moisture", at.moisture, round.moisture)),
+            Some(Line::read("temperature", at.temperature, round.temperature)),
+            Some(Line::write("valve", at.valve, round.opening, round.valve)),
+            self.log_line(),
+        ]
+    }
+
+    // The line of the log; there is none where the moisture was not read or not noted.
+    fn log_line(&self) -> Option<Line<'static, WIDTH>>
+        ensures { line_texts WIDTH (result ∷ []) ≡ log_lines WIDTH self.now.log_at self.now.round.moisture self.now.noted }
+    {
+        match (self.round.moisture, self.noted) {
+            (Ok(moisture), Some(answer)) => {
+                Some(Line::write("log", self.log_at, moisture, answer))
+            }
+            _ => None,
+        }
+    }
 }
 
 impl<const WIDTH: usize> fmt::Display for Work<WIDTH> {

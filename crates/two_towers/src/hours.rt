@@ -167,10 +167,14 @@ fn print_tower(rt: &HostRuntime, tower: Tower, number: u8, answers: HourAnswers)
     println!(rt; "  {name}")?;
     let round = answers.round;
     rt.println(Line::<WIDTH>::read("limit", tower.limit_at(), round.limit))?;
-    rt.println(Work::<WIDTH> {
+    let work = Work::<WIDTH> {
         at: tower.places(),
         log_at: tower.log_at(number),
         round,
         noted: answers.noted,
-    })
+    };
+    for line in work.lines().into_iter().flatten() {
+        rt.println(line)?;
+    }
+    Ok(())
 }

@@ -93,10 +93,14 @@ pub(crate) fn print(rt: &HostRuntime, number: u8, hour: Hour, worked: Worked) ->
         what: Planned(hour),
         answer: worked.readings,
     })?;
-    rt.println(Work::<WIDTH> {
+    let work = Work::<WIDTH> {
         at: PLACES,
         log_at: log::LOG + number as u32,
         round: worked.round,
         noted: worked.noted,
-    })
+    };
+    for line in work.lines().into_iter().flatten() {
+        rt.println(line)?;
+    }
+    Ok(())
 }
