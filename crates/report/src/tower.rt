@@ -21,7 +21,7 @@ impl<const WIDTH: usize> Work<WIDTH> {
     // out.
     pub fn lines(&self) -> [Option<Line<'static, WIDTH>>; 4]
         ensures lines { line_texts WIDTH result ≡ work_lines WIDTH self.now }
-        ensures text { joined (work_lines WIDTH self.now) ≡ work_text WIDTH self.now }
+        ensures text { joined (line_texts WIDTH result) ≡ work_text WIDTH self.now }
     {
         let at = self.at;
         let round = self.round;
